@@ -1,0 +1,4 @@
+pub mod Frees
+mod Pigeon
+pub mod Scan
+pub mod Walks

@@ -1,0 +1,59 @@
+-- A free page: it is 1 to the last, its bitmap bit is 1, its data are all FFh and unprotected, its redirection byte is FFh and no
+-- redirection byte names it.
+use Prim.Native.Nat.{ℕ, _≤_, _<_}
+use mathlib.Core.Path.{_≡_}
+use mathlib.Core.Bool.{Bool, true, false, not, _&&_}
+use mathlib.Core.List.{List}
+use lib.Dec.{eqb}
+use Rattle.memory.specs.declared.layout.Field.the-variants.{DataProtection, UsedPages}
+use Rattle.memory.specs.Image.{redirectionOf, pageBytes, pageBit}
+use Rattle.memory.specs.Page.{isBlank}
+use Rattle.chain.specs.declared.free.Found.{Found}
+use Rattle.chain.specs.Scan.{every, first, count}
+use Rattle.chain.specs.Walk.{namedBy}
+
+-- a redirection byte names page p
+abbrev pub names : ℕ → ℕ → Bool
+names byte p = not (eqb byte 255) && eqb (namedBy byte) p
+
+-- no redirection byte names page p
+unfoldable pub isUnnamed : ℕ → List ℕ → ℕ → Bool
+isUnnamed n img p = every (λ (q : ℕ). not (names (redirectionOf n img q) p)) n 0
+
+-- page p, one of the n pages, is free
+unfoldable pub isFree : ℕ → List ℕ → ℕ → Bool
+isFree n img p =
+    not (eqb p 0)
+    && (pageBit n UsedPages img p
+    && (pageBit n DataProtection img p
+    && (eqb (redirectionOf n img p) 255
+    && (isBlank (pageBytes img p)
+    && isUnnamed n img p))))
+
+-- page p is free and is not the other one
+unfoldable pub isFreeOther : ℕ → List ℕ → ℕ → ℕ → Bool
+isFreeOther n img other p = not (eqb p other) && isFree n img p
+
+-- the lowest free page other than the one given
+unfoldable pub lowestFree : ℕ → List ℕ → ℕ → Found
+lowestFree n img other = first (isFreeOther n img other) n 0
+
+unfoldable pub freeCount : ℕ → List ℕ → ℕ
+freeCount n img = count (isFree n img) n 0
+
+-- ---- the same in words
+
+pub record Free (n : ℕ) (img : List ℕ) (p : ℕ) : Type 0 where
+  pub low : 1 ≤ p
+  pub unused : pageBit n UsedPages img p ≡ true
+  pub unprotected : pageBit n DataProtection img p ≡ true
+  pub valid : redirectionOf n img p ≡ 255
+  pub blank : isBlank (pageBytes img p) ≡ true
+  pub unnamed : (q : ℕ) → q < n → names (redirectionOf n img q) p ≡ false
+
+-- t is free and not the other page, and each free page below it is the other one
+pub record Lowest (n : ℕ) (img : List ℕ) (other t : ℕ) : Type 0 where
+  pub on-chip : t < n
+  pub free : Free n img t
+  pub apart : t ≡ other → ⊥
+  pub below : (p : ℕ) → p < t → Free n img p → p ≡ other

@@ -1,0 +1,5 @@
+pub mod Walk
+pub mod Chain
+pub mod Scan
+pub mod Free
+pub mod Tray

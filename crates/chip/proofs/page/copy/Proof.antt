@@ -1,0 +1,80 @@
+use Prim.Native.Nat.{ℕ}
+use mathlib.Core.Path.{ap}
+use mathlib.Core.List.{List}
+use Rattle.memory.specs.Image.{pageBytes}
+use Rattle.memory.specs.Page.{copied}
+use Rattle.memory.proofs.Pages.{page-length, copied-same}
+use Rattle.memory.proofs.Sizes.{image-length, page-below}
+use mathlib.Core.Path.{_∙_, sym}
+use borrow.Author.Tests.{eq-eqb, ne-eqb, not-false, not-true}
+use Rattle.chip.specs.Page.{copyAnswer, copyBuffer}
+use borrow.Author.Needs.{needs}
+use Rattle.chip.proofs.page.copy.Statement.{statement}
+use Rattle.chip.proofs.page.copy.Tie as tie
+use Rattle.chip.proofs.page.copy.Reads as reads
+use Rattle.chip.proofs.page.copy.Lts as lts
+use Rattle.memory.proofs.layout.is_image.Reads as is-image-reads
+use Rattle.memory.proofs.layout.is_page.Reads as is-page-reads
+use Rattle.memory.proofs.page.copy.Reads as copy-reads
+use Rattle.memory.proofs.page.part.Reads as part-reads
+
+-- src/page.rt:41:9
+is-image-requires : tie.Need-is-image-requires
+is-image-requires c κs = search needs
+
+-- src/page.rt:42:9
+returns : tie.Need-returns
+unfolding copyAnswer copyBuffer
+returns c = (simp (sym (c .before .is-image .ensures) ∙ not-true (c .before .is-image .result) (c .if1 .taken)), simp (sym (c .before .is-image .ensures) ∙ not-true (c .before .is-image .result) (c .if1 .taken)))
+
+-- src/page.rt:45:9
+returns-2 : tie.Need-returns-2
+unfolding copyAnswer copyBuffer
+returns-2 c = (simp (sym (c .before .before .is-image .ensures) ∙ not-false (c .before .before .is-image .result) (c .before .if1 .left), ne-eqb _ _ (c .if2 .taken)), simp (sym (c .before .before .is-image .ensures) ∙ not-false (c .before .before .is-image .result) (c .before .if1 .left), ne-eqb _ _ (c .if2 .taken)))
+
+-- src/page.rt:47:9
+is-page-requires : tie.Need-is-page-requires
+is-page-requires c κs = search needs
+
+-- src/page.rt:48:9
+returns-3 : tie.Need-returns-3
+unfolding copyAnswer copyBuffer
+returns-3 c = (simp (sym (c .before .is-page .ensures) ∙ not-true (c .before .is-page .result) (c .if3 .taken), sym (c .before .before .before .before .is-image .ensures) ∙ not-false (c .before .before .before .before .is-image .result) (c .before .before .before .if1 .left), eq-eqb _ _ (c .before .before .if2 .left)), simp (sym (c .before .is-page .ensures) ∙ not-true (c .before .is-page .result) (c .if3 .taken), sym (c .before .before .before .before .is-image .ensures) ∙ not-false (c .before .before .before .before .is-image .result) (c .before .before .before .if1 .left), eq-eqb _ _ (c .before .before .if2 .left)))
+
+-- src/page.rt:50:24
+part-requires : tie.Need-part-requires
+part-requires c κs = search needs
+
+-- src/page.rt:50:5
+copy-requires : tie.Need-copy-requires
+copy-requires c κs = search needs
+
+-- src/page.rt:37:1
+same-length : tie.Need-same-length
+same-length c = search needs
+
+-- src/page.rt:37:1
+returns-4 : tie.Need-returns-4
+unfolding copyAnswer copyBuffer
+returns-4 c =
+    let i = sym (c .before .before .before .before .before .before .before .before .before .is-image .ensures) ∙ not-false (c .before .before .before .before .before .before .before .before .before .is-image .result) (c .before .before .before .before .before .before .before .before .if1 .left) in
+    let p = sym (c .before .before .before .before .before .before .is-page .ensures) ∙ not-false (c .before .before .before .before .before .before .is-page .result) (c .before .before .before .before .before .if3 .left) in
+    let a = c .before .before .before .before .before .before .before .before .before .before .before .before .args in
+    let long = page-length 64 (a .image .now) (a .page .0) (image-length 64 _ i) (page-below 64 _ p) in
+    let same = c .before .before .copy .ensures ∙ ap (λ (l : List ℕ). copied l (a .buffer .now)) (c .before .before .before .before .part .ensures) ∙ copied-same (pageBytes (a .image .now) (a .page .0)) (a .buffer .now) (long ∙ sym (c .before .before .before .before .before .before .before .if2 .left)) in
+    let b = eq-eqb _ _ (c .before .before .before .before .before .before .before .if2 .left) in
+    (simp (i, b, p), simp (i, b, p) same)
+
+pub copy-spec : {M : Type 1} → statement M
+copy-spec =
+    tie.close
+    (tie.spec
+    is-image-requires
+    returns
+    returns-2
+    is-page-requires
+    returns-3
+    part-requires
+    copy-requires
+    same-length
+    returns-4)

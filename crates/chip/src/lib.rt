@@ -1,0 +1,4 @@
+// The DS2505 as its callers know it. Every entry judges its own input.
+pub mod free;
+pub mod page;
+pub mod walk;

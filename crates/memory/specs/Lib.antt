@@ -1,0 +1,5 @@
+pub mod Layout
+pub mod Image
+pub mod Page
+pub mod Write
+pub mod Tray

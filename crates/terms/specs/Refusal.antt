@@ -1,0 +1,37 @@
+-- Document 01's table of refusals: the number of each, and the values that it gives back. A state is given back beside it.
+use Prim.Native.Nat.{ℕ}
+use mathlib.Core.List.{List, [], _∷_}
+use Rattle.terms.specs.declared.refusal.Refusal.{Refusal}
+use Rattle.terms.specs.declared.refusal.Refusal.the-variants.{ImageLength, StateRange, PageNumber, Loop, Outside, Crc16, ReadBack, NoFreePage, RedirectionProtected, BufferLength, Sheet, NoPresence, Crc8, Family}
+
+abbrev pub numberOf : Refusal → ℕ
+numberOf ImageLength = 1
+numberOf StateRange = 2
+numberOf PageNumber = 3
+numberOf Loop = 4
+numberOf (Outside k) = 5
+numberOf Crc16 = 6
+numberOf ReadBack = 7
+numberOf NoFreePage = 8
+numberOf (RedirectionProtected l) = 9
+numberOf BufferLength = 10
+numberOf Sheet = 12
+numberOf NoPresence = 13
+numberOf Crc8 = 14
+numberOf Family = 15
+
+abbrev pub valuesOf : Refusal → List ℕ
+valuesOf ImageLength = []
+valuesOf StateRange = []
+valuesOf PageNumber = []
+valuesOf Loop = []
+valuesOf (Outside k) = k ∷ []
+valuesOf Crc16 = []
+valuesOf ReadBack = []
+valuesOf NoFreePage = []
+valuesOf (RedirectionProtected l) = l .0 ∷ []
+valuesOf BufferLength = []
+valuesOf Sheet = []
+valuesOf NoPresence = []
+valuesOf Crc8 = []
+valuesOf Family = []

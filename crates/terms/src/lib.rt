@@ -1,0 +1,5 @@
+// What every crate above speaks of: addresses and pages as types of their own, the bits of a byte, the walk's verdict, the refusals.
+pub mod address;
+pub mod bits;
+pub mod refusal;
+pub mod verdict;

@@ -1,0 +1,533 @@
+//! The chip, event by event.
+
+mod common;
+
+use common::{
+    assert_silent, begin, blank_chip, chip_with, clear_bit, read, read_byte, redirection, send,
+    send_bits, status, NUMBER,
+};
+use ds2505_model::bits::{bits_of, bits_of_byte};
+use ds2505_model::chip::{Chip, Event, Stage};
+use ds2505_model::crc::{crc16_sent, crc16_sent_after_loading};
+use ds2505_model::memory::blank_image;
+use ds2505_model::random::{any_image, used_image, Generator};
+
+const ROM_COMMANDS: [u8; 4] = [0x33, 0x55, 0xF0, 0xCC];
+const MEMORY_COMMANDS: [u8; 5] = [0xF0, 0xAA, 0xA5, 0x0F, 0x55];
+
+/// Status bytes as the chip must read them.
+fn visible_status(image: &[u8]) -> Vec<u8> {
+    (0..320)
+        .map(|address| match address {
+            0x000..=0x007 | 0x020..=0x027 | 0x040..=0x047 | 0x100..=0x13F => image[status(address)],
+            _ => 0xFF,
+        })
+        .collect()
+}
+
+#[test]
+fn power_up_needs_a_whole_image() {
+    for length in [0, 1, 2367, 2369, 2392] {
+        let refusal = Chip::power_up(NUMBER, vec![0xFF; length]).unwrap_err();
+        assert_eq!(refusal.number(), 1);
+    }
+}
+
+#[test]
+fn silent_until_reset() {
+    let mut chip = blank_chip();
+    assert_eq!(chip.stage, Stage::Silent);
+    assert_silent(&mut chip);
+    assert!(!chip.event(Event::Reset));
+    assert!(!chip.event(Event::Reset));
+    send(&mut chip, &[0x33]);
+    assert_eq!(read(&mut chip, 8), NUMBER);
+}
+
+#[test]
+fn power_loss_at_any_moment() {
+    let mut image = blank_image();
+    image[32 * 3..32 * 4].fill(0x96);
+    let mut events = vec![Event::Reset];
+    events.extend(
+        bits_of(&[0xCC, 0x0F, 0x60, 0x00, 0x21])
+            .into_iter()
+            .map(Event::Slot),
+    );
+    events.extend([Event::Slot(true); 16]);
+    events.push(Event::Pulse);
+    events.extend([Event::Slot(true); 8]);
+    for count in 0..=events.len() {
+        let mut chip = chip_with(image.clone());
+        for &event in &events[..count] {
+            chip.event(event);
+        }
+        let before = chip.image.clone();
+        assert!(chip.event(Event::PowerLoss));
+        assert_eq!(chip.image, before);
+        assert_silent(&mut chip);
+        assert!(!chip.event(Event::Reset));
+        let pulsed = count > 57;
+        assert_eq!(before[0x60], if pulsed { 0x96 & 0x21 } else { 0x96 });
+    }
+}
+
+#[test]
+fn read_number() {
+    let mut chip = blank_chip();
+    chip.event(Event::Reset);
+    send(&mut chip, &[0x33]);
+    assert_eq!(read(&mut chip, 8), NUMBER);
+    // A memory command may follow.
+    send(&mut chip, &[0xA5, 0x00, 0x00]);
+    assert_eq!(read_byte(&mut chip), 0xFF);
+    assert_eq!(read(&mut chip, 2), crc16_sent(&[0xA5, 0x00, 0x00, 0xFF]));
+}
+
+#[test]
+fn any_bytes_as_number() {
+    let mut generator = Generator::new(10);
+    for _ in 0..50 {
+        let number: [u8; 8] = generator.bytes();
+        let mut chip = Chip::power_up(number, blank_image()).unwrap();
+        chip.event(Event::Reset);
+        send(&mut chip, &[0x33]);
+        assert_eq!(read(&mut chip, 8), number);
+    }
+}
+
+#[test]
+fn match_number() {
+    let mut chip = blank_chip();
+    chip.event(Event::Reset);
+    send(&mut chip, &[0x55]);
+    send(&mut chip, &NUMBER);
+    send(&mut chip, &[0xF0, 0xFF, 0x07]);
+    assert_eq!(read_byte(&mut chip), 0xFF);
+    assert_eq!(read(&mut chip, 2), crc16_sent(&[0xF0, 0xFF, 0x07, 0xFF]));
+
+    for wrong in 0..64 {
+        let mut bits = bits_of(&NUMBER);
+        bits[wrong] = !bits[wrong];
+        let mut chip = blank_chip();
+        chip.event(Event::Reset);
+        send(&mut chip, &[0x55]);
+        send_bits(&mut chip, &bits[..wrong]);
+        assert_ne!(chip.stage, Stage::Silent);
+        send_bits(&mut chip, &bits[wrong..=wrong]);
+        assert_eq!(chip.stage, Stage::Silent);
+        assert_silent(&mut chip);
+    }
+}
+
+#[test]
+fn search_number() {
+    let number = bits_of(&NUMBER);
+    let search = |wrong: Option<usize>| {
+        let mut chip = blank_chip();
+        chip.event(Event::Reset);
+        send(&mut chip, &[0xF0]);
+        for (place, &bit) in number.iter().enumerate() {
+            assert_eq!(chip.event(Event::Slot(true)), bit);
+            assert_eq!(chip.event(Event::Slot(true)), !bit);
+            let choice = if wrong == Some(place) { !bit } else { bit };
+            assert_eq!(chip.event(Event::Slot(choice)), choice);
+            if wrong == Some(place) {
+                assert_eq!(chip.stage, Stage::Silent);
+                assert_silent(&mut chip);
+                return chip;
+            }
+        }
+        chip
+    };
+    let mut chip = search(None);
+    send(&mut chip, &[0xAA, 0x3F, 0x01]);
+    assert_eq!(read_byte(&mut chip), 0xFF);
+    assert_eq!(read(&mut chip, 2), crc16_sent(&[0xAA, 0x3F, 0x01, 0xFF]));
+    for wrong in 0..64 {
+        search(Some(wrong));
+    }
+}
+
+#[test]
+fn unknown_commands_silence() {
+    for byte in 0..=0xFF {
+        let mut chip = blank_chip();
+        chip.event(Event::Reset);
+        send(&mut chip, &[byte]);
+        assert_eq!(chip.stage == Stage::Silent, !ROM_COMMANDS.contains(&byte));
+        let mut chip = blank_chip();
+        begin(&mut chip, &[byte]);
+        let known = MEMORY_COMMANDS.contains(&byte);
+        assert_eq!(chip.stage == Stage::Silent, !known);
+        if !known {
+            assert_silent(&mut chip);
+        }
+    }
+}
+
+#[test]
+fn start_addresses_beyond_the_end() {
+    for command in MEMORY_COMMANDS {
+        let last: u16 = match command {
+            0xAA | 0x55 => 0x13F,
+            _ => 0x7FF,
+        };
+        for address in [0, last, last + 1, 0x1000, 0x8000, 0xFFFF] {
+            let mut chip = blank_chip();
+            begin(&mut chip, &[command]);
+            let bits = bits_of(&address.to_le_bytes());
+            send_bits(&mut chip, &bits[..15]);
+            assert_ne!(chip.stage, Stage::Silent);
+            send_bits(&mut chip, &bits[15..]);
+            assert_eq!(chip.stage == Stage::Silent, address > last);
+        }
+    }
+}
+
+#[test]
+fn read_memory_from_its_last_byte() {
+    let mut image = blank_image();
+    image[0x7FF] = 0x3C;
+    let mut chip = chip_with(image);
+    begin(&mut chip, &[0xF0, 0xFF, 0x07]);
+    assert_eq!(read_byte(&mut chip), 0x3C);
+    assert_eq!(read(&mut chip, 2), crc16_sent(&[0xF0, 0xFF, 0x07, 0x3C]));
+    assert_silent(&mut chip);
+    begin(&mut chip, &[0xF0, 0x00, 0x08]);
+    assert_silent(&mut chip);
+}
+
+#[test]
+fn read_memory() {
+    let mut generator = Generator::new(11);
+    for _ in 0..40 {
+        let image = any_image(&mut generator);
+        let start = generator.below(0x800) as u16;
+        let [low, high] = start.to_le_bytes();
+        let mut chip = chip_with(image.clone());
+        begin(&mut chip, &[0xF0, low, high]);
+        let data = &image[usize::from(start)..0x800];
+        assert_eq!(read(&mut chip, data.len()), data);
+        let crc = crc16_sent(&[&[0xF0, low, high], data].concat());
+        assert_eq!(read(&mut chip, 2), crc);
+        assert_silent(&mut chip);
+    }
+}
+
+#[test]
+fn read_status_from_everywhere() {
+    let mut generator = Generator::new(12);
+    let image = any_image(&mut generator);
+    let visible = visible_status(&image);
+    for start in 0..0x140usize {
+        let [low, high] = (start as u16).to_le_bytes();
+        let mut chip = chip_with(image.clone());
+        begin(&mut chip, &[0xAA, low, high]);
+        let end = start / 8 * 8 + 8;
+        assert_eq!(read(&mut chip, end - start), visible[start..end]);
+        let first = [&[0xAA, low, high], &visible[start..end]].concat();
+        assert_eq!(read(&mut chip, 2), crc16_sent(&first));
+        for bytes in visible[end..].chunks(8) {
+            assert_eq!(read(&mut chip, 8), bytes);
+            assert_eq!(read(&mut chip, 2), crc16_sent(bytes));
+        }
+        assert_silent(&mut chip);
+        assert_eq!(chip.image, image);
+    }
+}
+
+#[test]
+fn extended_read() {
+    let mut generator = Generator::new(13);
+    let mut starts: Vec<usize> = vec![0, 1, 31, 32, 0x7DF, 0x7E0, 0x7FF];
+    starts.extend((0..20).map(|_| generator.below(0x800) as usize));
+    for start in starts {
+        let image = any_image(&mut generator);
+        let [low, high] = (start as u16).to_le_bytes();
+        let mut chip = chip_with(image.clone());
+        begin(&mut chip, &[0xA5, low, high]);
+        let first_page = start / 32;
+        for page in first_page..64 {
+            let byte = image[redirection(page)];
+            assert_eq!(read_byte(&mut chip), byte);
+            let from = if page == first_page {
+                assert_eq!(read(&mut chip, 2), crc16_sent(&[0xA5, low, high, byte]));
+                start
+            } else {
+                assert_eq!(read(&mut chip, 2), crc16_sent(&[byte]));
+                32 * page
+            };
+            let data = &image[from..32 * page + 32];
+            assert_eq!(read(&mut chip, data.len()), data);
+            assert_eq!(read(&mut chip, 2), crc16_sent(data));
+        }
+        assert_silent(&mut chip);
+    }
+}
+
+/// Writes bytes from a start address, checking CRCs, and gives what was read
+/// back of each.
+fn write(chip: &mut Chip, command: u8, start: u16, bytes: &[u8]) -> Vec<u8> {
+    let [low, high] = start.to_le_bytes();
+    begin(chip, &[command, low, high]);
+    let mut held = Vec::new();
+    for (offset, &byte) in bytes.iter().enumerate() {
+        send(chip, &[byte]);
+        let crc = if offset == 0 {
+            crc16_sent(&[command, low, high, byte])
+        } else {
+            crc16_sent_after_loading(start + offset as u16, byte)
+        };
+        assert_eq!(read(chip, 2), crc);
+        assert!(chip.event(Event::Pulse));
+        held.push(read_byte(chip));
+    }
+    held
+}
+
+#[test]
+fn write_is_and() {
+    let mut image = blank_image();
+    image[0x40] = 0xF0;
+    image[0x41] = 0x5A;
+    image[0x60] = 0x5A;
+    clear_bit(&mut image, 0x000, 3);
+    let mut chip = chip_with(image.clone());
+    assert_eq!(
+        write(&mut chip, 0x0F, 0x40, &[0x0F, 0xFF, 0x3C]),
+        [0x00, 0x5A, 0x3C]
+    );
+    assert_eq!(write(&mut chip, 0x0F, 0x60, &[0x0F, 0x0F]), [0x5A, 0xFF]);
+    image[0x40] = 0x00;
+    image[0x42] = 0x3C;
+    assert_eq!(chip.image, image);
+}
+
+#[test]
+fn write_runs_over_a_protected_page() {
+    let mut image = blank_image();
+    clear_bit(&mut image, 0x000, 5);
+    let mut chip = chip_with(image);
+    let held = write(&mut chip, 0x0F, 32 * 5 - 1, &[0x00; 34]);
+    assert_eq!(held[0], 0x00);
+    assert_eq!(held[1..33], [0xFF; 32]);
+    assert_eq!(held[33], 0x00);
+}
+
+#[test]
+fn write_does_not_follow_redirection() {
+    let mut image = blank_image();
+    image[redirection(1)] = 0xFD;
+    let mut chip = chip_with(image.clone());
+    assert_eq!(write(&mut chip, 0x0F, 0x20, &[0x12]), [0x12]);
+    image[0x20] = 0x12;
+    assert_eq!(chip.image, image);
+}
+
+#[test]
+fn write_to_the_last_addresses() {
+    let mut chip = blank_chip();
+    assert_eq!(write(&mut chip, 0x0F, 0x7FE, &[0x12, 0x34]), [0x12, 0x34]);
+    assert_eq!(chip.stage, Stage::Silent);
+    assert_silent(&mut chip);
+    assert_eq!(chip.image[0x7FE..0x800], [0x12, 0x34]);
+    assert_eq!(write(&mut chip, 0x55, 0x13E, &[0x56, 0x78]), [0x56, 0x78]);
+    assert_eq!(chip.stage, Stage::Silent);
+    assert_silent(&mut chip);
+    assert_eq!(chip.image[status(0x13E)..], [0x56, 0x78]);
+    assert_eq!(chip.image[..0x7FE], blank_image()[..0x7FE]);
+}
+
+#[test]
+fn write_all_of_status() {
+    let mut generator = Generator::new(14);
+    for _ in 0..6 {
+        let image = any_image(&mut generator);
+        let bytes: Vec<u8> = (0..320).map(|_| generator.byte()).collect();
+        let mut chip = chip_with(image.clone());
+        let held = write(&mut chip, 0x55, 0x000, &bytes);
+        let mut expected = image.clone();
+        for address in 0..320 {
+            let allowed = match address {
+                0x000..=0x007 | 0x020..=0x027 | 0x040..=0x047 => true,
+                // The protection bits written a moment ago count already.
+                0x100..=0x13F => {
+                    let page = address - 0x100;
+                    (expected[status(0x020 + page / 8)] >> (page % 8)) & 1 == 1
+                }
+                _ => false,
+            };
+            if allowed {
+                expected[status(address)] &= bytes[address];
+            }
+        }
+        assert_eq!(chip.image, expected);
+        assert_eq!(held, visible_status(&expected));
+        assert_silent(&mut chip);
+    }
+}
+
+#[test]
+fn the_next_address_is_loaded_not_shifted() {
+    let mut chip = blank_chip();
+    write(&mut chip, 0x0F, 0x0FF, &[0x11]);
+    send(&mut chip, &[0x22]);
+    let crc = read(&mut chip, 2);
+    assert_eq!(crc, crc16_sent_after_loading(0x0100, 0x22));
+    assert_ne!(crc, crc16_sent(&[0x00, 0x01, 0x22]));
+}
+
+#[test]
+fn slot_when_armed_silences() {
+    for bit in [false, true] {
+        let mut chip = blank_chip();
+        begin(&mut chip, &[0x0F, 0x00, 0x00, 0x00]);
+        read(&mut chip, 2);
+        assert!(matches!(chip.stage, Stage::Armed { .. }));
+        assert_eq!(chip.event(Event::Slot(bit)), bit);
+        assert!(chip.event(Event::Pulse));
+        assert_eq!(chip.image, blank_image());
+        assert_silent(&mut chip);
+    }
+}
+
+/// Pulses before each event change nothing but for the one on the armed chip.
+#[test]
+fn pulses_when_not_armed() {
+    let mut events = vec![Event::Reset];
+    events.extend(
+        bits_of(&[0xCC, 0x0F, 0x00, 0x00, 0xA0])
+            .into_iter()
+            .map(Event::Slot),
+    );
+    events.extend([Event::Slot(true); 16]);
+    let armed_at = events.len();
+    for count in 0..armed_at {
+        let mut chip = blank_chip();
+        let mut other = blank_chip();
+        for &event in &events[..count] {
+            chip.event(event);
+            other.event(event);
+        }
+        for _ in 0..3 {
+            assert!(chip.event(Event::Pulse));
+            assert_eq!(chip, other);
+        }
+    }
+    // The second of two pulses falls into the reading back.
+    let mut chip = blank_chip();
+    for &event in &events {
+        chip.event(event);
+    }
+    chip.event(Event::Pulse);
+    chip.event(Event::Pulse);
+    assert_eq!(read_byte(&mut chip), 0xA0);
+    send(&mut chip, &[0x0B]);
+    assert_eq!(read(&mut chip, 2), crc16_sent_after_loading(1, 0x0B));
+    assert_eq!(chip.image[..2], [0xA0, 0xFF]);
+}
+
+#[test]
+fn sending_goes_on_whatever_the_master_does() {
+    let mut generator = Generator::new(15);
+    let image = any_image(&mut generator);
+    for command in [0xF0, 0xAA, 0xA5] {
+        let mut plain = chip_with(image.clone());
+        let mut pulled = chip_with(image.clone());
+        begin(&mut plain, &[command, 0x10, 0x00]);
+        begin(&mut pulled, &[command, 0x10, 0x00]);
+        for _ in 0..20_000 {
+            let master = generator.bit();
+            let own = plain.event(Event::Slot(true));
+            assert_eq!(pulled.event(Event::Slot(master)), master && own);
+            assert_eq!(plain.stage, pulled.stage);
+        }
+    }
+    // CRC and reading back of a write as well.
+    let mut chip = blank_chip();
+    begin(&mut chip, &[0x0F, 0x00, 0x00, 0xA5]);
+    for _ in 0..16 {
+        assert!(!chip.event(Event::Slot(false)));
+    }
+    chip.event(Event::Pulse);
+    for _ in 0..8 {
+        assert!(!chip.event(Event::Slot(false)));
+    }
+    send_bits(&mut chip, &bits_of_byte(0x0F));
+    assert_eq!(read(&mut chip, 2), crc16_sent_after_loading(1, 0x0F));
+    assert_eq!(chip.image[0], 0xA5);
+}
+
+/// Sessions made of likely and unlikely pieces: no event makes a bit 1, gaps
+/// stay, protected bytes stay, and only pulses change anything.
+#[test]
+fn random_events() {
+    let mut generator = Generator::new(16);
+    let mut changes = 0;
+    for _ in 0..300 {
+        let image = used_image(&mut generator);
+        let mut chip = chip_with(image.clone());
+        for _ in 0..60 {
+            let mut events = Vec::new();
+            if !generator.once_in(8) {
+                events.push(Event::Reset);
+            }
+            let mut bytes = vec![0xCC];
+            if generator.once_in(6) {
+                bytes[0] = generator.byte();
+            }
+            bytes.push(MEMORY_COMMANDS[generator.below(5) as usize]);
+            bytes.extend((generator.below(0x900) as u16).to_le_bytes());
+            bytes.push(generator.byte());
+            events.extend(bits_of(&bytes).into_iter().map(Event::Slot));
+            events.extend([Event::Slot(true); 16]);
+            events.push(Event::Pulse);
+            events.extend([Event::Slot(true); 8]);
+            for _ in 0..generator.below(60) {
+                events.push(match generator.below(10) {
+                    0 => Event::Pulse,
+                    1 => Event::PowerLoss,
+                    _ => Event::Slot(generator.bit()),
+                });
+            }
+            if generator.once_in(6) {
+                let dropped = generator.below(events.len() as u64) as usize;
+                events.remove(dropped);
+            }
+            for event in events {
+                let before = chip.image.clone();
+                let armed = matches!(chip.stage, Stage::Armed { .. });
+                let reply = chip.event(event);
+                match event {
+                    Event::Reset => assert!(!reply),
+                    Event::Pulse | Event::PowerLoss => assert!(reply),
+                    Event::Slot(bit) => assert!(bit || !reply),
+                }
+                if chip.image != before {
+                    assert!(armed && event == Event::Pulse);
+                    changes += 1;
+                    let differing: Vec<usize> = (0..2368)
+                        .filter(|&at| chip.image[at] != before[at])
+                        .collect();
+                    assert_eq!(differing.len(), 1);
+                    let at = differing[0];
+                    assert_eq!(chip.image[at] & before[at], chip.image[at]);
+                    if at < 2048 {
+                        let page = at / 32;
+                        assert_eq!((before[status(page / 8)] >> (page % 8)) & 1, 1);
+                    } else if at >= status(0x100) {
+                        let page = at - status(0x100);
+                        assert_eq!((before[status(0x20 + page / 8)] >> (page % 8)) & 1, 1);
+                    }
+                }
+            }
+        }
+        for address in 0..320 {
+            if !matches!(address, 0x000..=0x007 | 0x020..=0x027 | 0x040..=0x047 | 0x100..=0x13F) {
+                assert_eq!(chip.image[status(address)], image[status(address)]);
+            }
+        }
+    }
+    assert!(changes > 1000, "{changes}");
+}
