@@ -1,3 +1,5 @@
-pub mod Walk
-pub mod Page
+pub mod Event
 pub mod Free
+pub mod Page
+pub mod Run
+pub mod Walk

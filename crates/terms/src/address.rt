@@ -12,6 +12,12 @@ pub struct Page(pub u8);
 // A redirection byte.
 pub struct Redirection(pub u8);
 
+// The two memories of a chip.
+pub enum Space {
+    Data,
+    Status,
+}
+
 // A byte of the chip's memory that can be written.
 pub enum Target {
     Data(DataAddress),

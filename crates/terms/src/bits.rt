@@ -1,7 +1,8 @@
 // The bits of a number, by shift and mask. All bytes go least significant bit first.
+ghost use mathlib.Core.Bool.{_&&_};
 ghost use mathlib.Core.Path.{_≡_};
 ghost use Prim.Native.Nat.{_%_};
-ghost use Rattle.terms.specs.Bits.{odd, bitAt};
+ghost use Rattle.terms.specs.Bits.{odd, bitAt, shiftIn, same};
 
 // The lowest bit of a 16-bit register.
 pub fn low(x: u16) -> bool
@@ -15,4 +16,29 @@ pub fn at(x: u8, k: u8) -> bool
     ensures { λ r. ⌜ r ≡ bitAt x (k % 8) ⌝ }
 {
     (x >> (k & 7)) & 1 == 1
+}
+
+// The register that collects a byte: it shifts right, and the new bit comes in on top.
+pub fn shift_in(register: u8, bit: bool) -> u8
+    ensures { λ r. ⌜ r ≡ shiftIn register bit ⌝ }
+{
+    if bit {
+        (register >> 1) | 0x80
+    } else {
+        register >> 1
+    }
+}
+
+// Two bits agree.
+pub fn agree(a: bool, b: bool) -> bool
+    ensures { λ r. ⌜ r ≡ same a b ⌝ }
+{
+    if a { b } else { !b }
+}
+
+// The line: low where either pulls it low.
+pub fn line(a: bool, b: bool) -> bool
+    ensures { λ r. ⌜ r ≡ (a && b) ⌝ }
+{
+    if a { b } else { false }
 }

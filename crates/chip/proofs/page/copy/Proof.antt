@@ -11,49 +11,19 @@ use Rattle.chip.specs.Page.{copyAnswer, copyBuffer}
 use borrow.Author.Needs.{needs}
 use Rattle.chip.proofs.page.copy.Statement.{statement}
 use Rattle.chip.proofs.page.copy.Tie as tie
-use Rattle.chip.proofs.page.copy.Reads as reads
-use Rattle.chip.proofs.page.copy.Lts as lts
-use Rattle.memory.proofs.layout.is_image.Reads as is-image-reads
-use Rattle.memory.proofs.layout.is_page.Reads as is-page-reads
-use Rattle.memory.proofs.page.copy.Reads as copy-reads
-use Rattle.memory.proofs.page.part.Reads as part-reads
 
--- src/page.rt:41:9
-is-image-requires : tie.Need-is-image-requires
-is-image-requires c κs = search needs
-
--- src/page.rt:42:9
 returns : tie.Need-returns
 unfolding copyAnswer copyBuffer
 returns c = (simp (sym (c .before .is-image .ensures) ∙ not-true (c .before .is-image .result) (c .if1 .taken)), simp (sym (c .before .is-image .ensures) ∙ not-true (c .before .is-image .result) (c .if1 .taken)))
 
--- src/page.rt:45:9
 returns-2 : tie.Need-returns-2
 unfolding copyAnswer copyBuffer
 returns-2 c = (simp (sym (c .before .before .is-image .ensures) ∙ not-false (c .before .before .is-image .result) (c .before .if1 .left), ne-eqb _ _ (c .if2 .taken)), simp (sym (c .before .before .is-image .ensures) ∙ not-false (c .before .before .is-image .result) (c .before .if1 .left), ne-eqb _ _ (c .if2 .taken)))
 
--- src/page.rt:47:9
-is-page-requires : tie.Need-is-page-requires
-is-page-requires c κs = search needs
-
--- src/page.rt:48:9
 returns-3 : tie.Need-returns-3
 unfolding copyAnswer copyBuffer
 returns-3 c = (simp (sym (c .before .is-page .ensures) ∙ not-true (c .before .is-page .result) (c .if3 .taken), sym (c .before .before .before .before .is-image .ensures) ∙ not-false (c .before .before .before .before .is-image .result) (c .before .before .before .if1 .left), eq-eqb _ _ (c .before .before .if2 .left)), simp (sym (c .before .is-page .ensures) ∙ not-true (c .before .is-page .result) (c .if3 .taken), sym (c .before .before .before .before .is-image .ensures) ∙ not-false (c .before .before .before .before .is-image .result) (c .before .before .before .if1 .left), eq-eqb _ _ (c .before .before .if2 .left)))
 
--- src/page.rt:50:24
-part-requires : tie.Need-part-requires
-part-requires c κs = search needs
-
--- src/page.rt:50:5
-copy-requires : tie.Need-copy-requires
-copy-requires c κs = search needs
-
--- src/page.rt:37:1
-same-length : tie.Need-same-length
-same-length c = search needs
-
--- src/page.rt:37:1
 returns-4 : tie.Need-returns-4
 unfolding copyAnswer copyBuffer
 returns-4 c =
@@ -69,12 +39,12 @@ pub copy-spec : {M : Type 1} → statement M
 copy-spec =
     tie.close
     (tie.spec
-    is-image-requires
+    (λ c κs. search needs)
     returns
     returns-2
-    is-page-requires
+    (λ c κs. search needs)
     returns-3
-    part-requires
-    copy-requires
-    same-length
+    (λ c κs. search needs)
+    (λ c κs. search needs)
+    (λ c. search needs)
     returns-4)

@@ -1,0 +1,152 @@
+// The chip, driven by bus events.
+ghost use mathlib.Core.Path.{_≡_};
+ghost use Rattle.memory.specs.Layout.{pageCount};
+ghost use Rattle.chip.specs.Event.{powerUp, leading, stageSlot, stageBit, stagePulse, pulseImageOf, inRange, replyOf, imageAfter, stageAfter, eventTold, eventAnswer, eventState, eventImage};
+use bus::Event;
+use memory::layout;
+use memory_function::function;
+use memory_function::ranges;
+use memory_function::stage;
+use memory_function::stage::Incoming;
+use memory_function::stage::MemoryStage;
+use rom_function::RomOutcome;
+use rom_function::RomStage;
+use terms::address::Page;
+use terms::bits;
+use terms::refusal::Refusal;
+
+// Where the chip stands: in a ROM function, or in a memory function. A silent chip counts as the latter.
+pub enum Stage {
+    Rom(RomStage),
+    Memory(MemoryStage),
+}
+
+// The stage, and the registration number, eight bytes of any value.
+pub struct State {
+    pub stage: Stage,
+    pub number: [u8; 8],
+}
+
+pub enum Answer {
+    Refused(Refusal),
+    Reply(bool),
+}
+
+pub struct Stepped {
+    pub answer: Answer,
+    pub state: State,
+}
+
+// A chip at power-up: silent until reset.
+pub fn power_up(number: [u8; 8]) -> State
+    ensures { λ r. ⌜ r ≡ powerUp number ⌝ }
+{
+    State {
+        stage: Stage::Memory(MemoryStage::Silent),
+        number,
+    }
+}
+
+// What a ROM function leads to.
+fn lead(outcome: RomOutcome) -> Stage
+    ensures { λ r. ⌜ r ≡ leading outcome ⌝ }
+{
+    match outcome {
+        RomOutcome::Stays(r) => Stage::Rom(r),
+        RomOutcome::Selected => Stage::Memory(stage::receive(Incoming::Command, 0)),
+        RomOutcome::Deselected => Stage::Memory(MemoryStage::Silent),
+    }
+}
+
+fn slot(last: Page, stage: Stage, bit: bool, number: [u8; 8], image: &[u8]) -> Stage
+    ensures { λ r. ⌜ r ≡ stageSlot (pageCount last) stage bit number (now (image .entry)) ⌝ }
+{
+    match stage {
+        Stage::Rom(r) => lead(rom_function::slot(r, bit, number)),
+        Stage::Memory(m) => Stage::Memory(function::slot(last, m, bit, image)),
+    }
+}
+
+// The chip's bit in a slot, 1 where it is not sending.
+fn chip_bit(stage: Stage, number: [u8; 8]) -> bool
+    ensures { λ r. ⌜ r ≡ stageBit stage number ⌝ }
+{
+    match stage {
+        Stage::Rom(r) => rom_function::chip_bit(r, number),
+        Stage::Memory(m) => function::chip_bit(m),
+    }
+}
+
+fn pulse(last: Page, stage: Stage, image: &mut [u8]) -> Stage
+    ensures image { λ r. ⌜ now (image .exit) ≡ pulseImageOf (pageCount last) stage (now (image .entry)) ⌝ }
+    ensures stage { λ r. ⌜ r ≡ stagePulse (pageCount last) stage (now (image .exit)) ⌝ }
+{
+    match stage {
+        Stage::Rom(r) => Stage::Rom(r),
+        Stage::Memory(m) => Stage::Memory(function::pulse(last, m, image)),
+    }
+}
+
+// The fields of a stage are within their ranges.
+fn in_range(last: Page, stage: Stage) -> bool
+    ensures { λ r. ⌜ r ≡ inRange (pageCount last) stage ⌝ }
+{
+    match stage {
+        Stage::Rom(r) => rom_function::in_range(r),
+        Stage::Memory(m) => ranges::in_range(last, m),
+    }
+}
+
+fn reply(stage: Stage, event: Event, number: [u8; 8]) -> bool
+    ensures { λ r. ⌜ r ≡ replyOf stage event number ⌝ }
+{
+    match event {
+        Event::Reset => false,
+        Event::Slot(bit) => bits::line(bit, chip_bit(stage, number)),
+        Event::Pulse => true,
+        Event::PowerLoss => true,
+    }
+}
+
+fn advance(last: Page, stage: Stage, event: Event, number: [u8; 8], image: &mut [u8]) -> Stage
+    ensures image { λ r. ⌜ now (image .exit) ≡ imageAfter (pageCount last) stage event (now (image .entry)) ⌝ }
+    ensures stage { λ r. ⌜ r ≡ stageAfter (pageCount last) stage event number (now (image .exit)) ⌝ }
+{
+    match event {
+        Event::Reset => Stage::Rom(RomStage::Command(0, 0)),
+        Event::Slot(bit) => slot(last, stage, bit, number, image),
+        Event::Pulse => pulse(last, stage, image),
+        Event::PowerLoss => Stage::Memory(MemoryStage::Silent),
+    }
+}
+
+// One event. Refused: 1, 2; the state is then the same and the image untouched.
+pub fn event(state: State, event: Event, image: &mut [u8]) -> Stepped
+    ensures answer { λ r. ⌜ eventTold (r .answer) ≡ eventAnswer 64 state event (now (image .entry)) ⌝ }
+    ensures state { λ r. ⌜ r .state ≡ eventState 64 state event (now (image .entry)) ⌝ }
+    ensures image { λ r. ⌜ now (image .exit) ≡ eventImage 64 state event (now (image .entry)) ⌝ }
+{
+    if !layout::is_image(image, Page(layout::DS2505)) {
+        return Stepped {
+            answer: Answer::Refused(Refusal::ImageLength),
+            state,
+        };
+    }
+    let stage = state.stage;
+    let number = state.number;
+    if !in_range(Page(layout::DS2505), stage) {
+        return Stepped {
+            answer: Answer::Refused(Refusal::StateRange),
+            state,
+        };
+    }
+    let bit = reply(stage, event, number);
+    let next = advance(Page(layout::DS2505), stage, event, number, image);
+    Stepped {
+        answer: Answer::Reply(bit),
+        state: State {
+            stage: next,
+            number,
+        },
+    }
+}

@@ -1,0 +1,6 @@
+pub mod Ds2505
+pub mod Runs
+pub mod Sessions
+pub mod Slots
+pub mod States
+pub mod Writes

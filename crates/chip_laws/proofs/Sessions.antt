@@ -1,0 +1,198 @@
+-- ROM commands and the commands that read, over whole sessions.
+use Prim.Native.Nat.{ℕ, zero, suc, _+_, _*_, _/_, _%_, _<_, _≤_}
+use mathlib.Core.Path.{_≡_, refl, sym, ap, ap₂, _∙_, subst}
+use mathlib.Core.Bool.{Bool, true, false, not, cond, _&&_}
+use mathlib.Core.List.{List, [], _∷_, _++_, map, append-nil}
+use native.Mathlib.Omega.{arith}
+use lib.Dec.{eqb, ltb, lit<}
+use lib.ListN.{length, length-append, length-replicate}
+use borrow.Author.Tests.{lt-ltb, le-ltb}
+use Rattle.terms.specs.Told.{accepted}
+use Rattle.terms.specs.Bits.{bitsOf, bitsOfBytes}
+use Rattle.terms.specs.declared.address.Space.{Space}
+use Rattle.terms.specs.declared.address.Space.the-variants.{Data, Status}
+use Rattle.bus.specs.declared.Event.{Event}
+use Rattle.bus.specs.declared.Event.the-variants.{Reset}
+use Rattle.bus.specs.Slots.{slots, ones, lines}
+use Rattle.crc.specs.Crc.{crcBytes, crc16Byte, crc16Of}
+use Rattle.memory.specs.Layout.{dataSize, statusSize}
+use Rattle.rom_function.specs.declared.RomStep.the-variants.{Read, Match, SearchBit}
+use Rattle.rom_function.specs.declared.RomStage.{RomStage}
+use Rattle.rom_function.specs.declared.RomStage.the-variants.{Command as RomCommand, Number}
+use Rattle.rom_function.specs.declared.RomOutcome.{RomOutcome}
+use Rattle.rom_function.specs.declared.RomOutcome.the-variants.{Selected, Deselected}
+use Rattle.rom_function.specs.Rom.{numberBit, romCommand}
+use Rattle.rom_laws.specs.Rom.{Roms, Ask, numberBits, searchBits, searchSent}
+use Rattle.rom_laws.proofs.Sessions.{rom-laws}
+use Rattle.memory_function.specs.declared.stage.Command.{Command}
+use Rattle.memory_function.specs.declared.stage.Command.the-variants.{ReadMemory, ReadStatus, ExtendedRead, Write}
+use Rattle.memory_function.specs.declared.stage.Incoming.the-variants.{Command as CommandByte, AddressLow, AddressHigh}
+use Rattle.memory_function.specs.declared.stage.MemoryStage.{MemoryStage}
+use Rattle.memory_function.specs.declared.stage.MemoryStage.the-variants.{Silent}
+use Rattle.memory_function.specs.Limits.{limitOf, isAddress}
+use Rattle.memory_function.specs.Stages.{receiving}
+use Rattle.memory_function.specs.Reads.{startMemory, startStatus, startExtended}
+use Rattle.memory_function.specs.Writes.{startWrite}
+use Rattle.memory_function.specs.Functions.{beginning, memoryCommand, addressed, received}
+use Rattle.function_laws.specs.Streams.{header, memoryStream, statusStream, extendedStream}
+use Rattle.function_laws.specs.Reads.{Sends}
+use Rattle.function_laws.proofs.Sessions.{read-laws}
+use Rattle.chip.specs.declared.event.Stage.the-variants.{Rom, Memory}
+use Rattle.chip.specs.Event.{silent, awaitingRom, awaitingMemory, leading, replyOf, imageAfter, stageAfter}
+use Rattle.chip.specs.Run.{Chip, answers}
+use Rattle.chip_laws.specs.Session.{Ready, _at_, Goes, Selection, skip, read, matched, searched, thenOnes, writeCommand}
+use Rattle.chip_laws.specs.Laws.{RomLaws, Draws, ReadLaws, SilenceLaws}
+use Rattle.chip_laws.proofs.Runs.{_then_, further, event}
+use Rattle.chip_laws.proofs.Slots.{slots-append, lines-ones, bits-length, ready, over-rom, over-memory, draws-stream, byte-in}
+
+module _ (n : ℕ) (whole : n % 8 ≡ 0) where
+  pub reset : (c : Chip) → Ready n c → Goes n c (Reset ∷ []) (false ∷ []) (c at awaitingRom)
+  unfolding replyOf stageAfter imageAfter
+  reset c ok = event n c ok Reset
+
+  -- ---- ROM commands
+
+  -- the command byte
+  rom-byte : (c : Chip) (byte : ℕ) → byte < 256 → Ready n c → Goes n c (Reset ∷ slots (bitsOf 8 byte)) (false ∷ bitsOf 8 byte) (c at leading (romCommand byte))
+  rom-byte c byte lt ok =
+      let first = reset c ok in
+      first then rw (lines-ones (bitsOf 8 byte) 8 (bits-length 8 byte)) at (over-rom n whole c (rom-laws .command (c .state .number) byte lt) (ready n whole ok first))
+
+  -- the command byte and the bits that follow it
+  rom-bits : (c : Chip) (byte : ℕ) {r : RomStage} {ms bs : List Bool} {o : RomOutcome} → byte < 256 → leading (romCommand byte) ≡ Rom r
+      → Roms (c .state .number) r ms bs o → Ready n c
+      → Goes n c (Reset ∷ slots (bitsOf 8 byte ++ ms)) (false ∷ (bitsOf 8 byte ++ lines ms bs)) (c at leading o)
+  rom-bits c byte {ms = ms} lt e p ok =
+      let first = rw e at (rom-byte c byte lt ok) in
+      rw (slots-append (bitsOf 8 byte) ms) (first then over-rom n whole c p (ready n whole ok first))
+
+  number-length : (number : List ℕ) (i k : ℕ) → length (numberBits number i k) ≡ k
+  unfolding numberBits
+  number-length number i zero = refl
+  number-length number i (suc k) = ap suc (number-length number (i + 1) k)
+
+  the-number : (c : Chip) → Ready n c → numberBits (c .state .number) 0 64 ≡ bitsOfBytes (c .state .number)
+  the-number c ok = rom-laws .number-bits (c .state .number) (ok .eight)
+
+  pub selects : (c : Chip) {ms ls : List Bool} → Ready n c → Selection (c .state .number) ms ls → Goes n c (Reset ∷ slots ms) (false ∷ ls) (c at awaitingMemory)
+  unfolding romCommand leading
+  selects c ok skip = rom-byte c 0xCC (lit< tt) ok
+  selects c ok (read ms l) = rw (← (the-number c ok)) (rom-bits c 0x33 (lit< tt) refl (rom-laws .read (c .state .number) ms l) ok)
+  selects c ok matched =
+      rw (← (the-number c ok))
+      (rw (lines-ones (numberBits (c .state .number) 0 64) 64 (number-length (c .state .number) 0 64)) at
+      (rom-bits c 0x55 (lit< tt) refl (rom-laws .matched (c .state .number)) ok))
+  selects c ok (searched asks l) = rom-bits c 0xF0 (lit< tt) refl (rom-laws .searched (c .state .number) asks l) ok
+
+  mismatched : (c : Chip) (k : ℕ) → Ready n c → k < 64
+      → let number = c .state .number in
+      let ms = bitsOf 8 0x55 ++ (numberBits number 0 k ++ (not (numberBit number k) ∷ [])) in
+      Goes n c (Reset ∷ slots ms) (false ∷ ms) (c at silent)
+  unfolding romCommand leading
+  mismatched c k ok lt =
+      let number = c .state .number in
+      let ms = numberBits number 0 k ++ (not (numberBit number k) ∷ []) in
+      let l : length (numberBits number 0 k ++ (not (numberBit number k) ∷ [])) ≡ k + 1 =
+      length-append (numberBits number 0 k) (not (numberBit number k) ∷ []) ∙ ap (λ x. x + 1) (number-length number 0 k) in
+      rw (lines-ones ms (k + 1) l) at (rom-bits c 0x55 (lit< tt) refl (rom-laws .mismatched number k lt) ok)
+
+  lost : (c : Chip) (k : ℕ) (asks : List Ask) (a : Ask) → Ready n c → k < 64 → length asks ≡ k
+      → let number = c .state .number in
+      let ms = searchBits number 0 asks ++ (a .first ∷ a .second ∷ not (numberBit number k) ∷ []) in
+      Goes n c (Reset ∷ slots (bitsOf 8 0xF0 ++ ms)) (false ∷ (bitsOf 8 0xF0 ++ lines ms (searchSent number 0 (k + 1)))) (c at silent)
+  unfolding romCommand leading
+  lost c k asks a ok lt l = rom-bits c 0xF0 (lit< tt) refl (rom-laws .lost (c .state .number) k asks a lt l) ok
+
+  unknown-rom : (c : Chip) (byte : ℕ) → Ready n c → byte < 256 → eqb byte 0x33 ≡ false → eqb byte 0x55 ≡ false → eqb byte 0xF0 ≡ false → eqb byte 0xCC ≡ false
+      → Goes n c (Reset ∷ slots (bitsOf 8 byte)) (false ∷ bitsOf 8 byte) (c at silent)
+  unknown-rom c byte ok lt h₁ h₂ h₃ h₄ =
+      let e : leading (romCommand byte) ≡ silent = unfold romCommand leading in simp (h₁, h₂, h₃, h₄) in
+      rw e at (rom-byte c byte lt ok)
+
+  -- ---- a memory command with its address
+
+  parts : (a : ℕ) → a % 256 + 256 * (a / 256) ≡ a
+  parts a = omega arith
+
+  pub header-in : (c : Chip) (command : Command) (byte a : ℕ) → byte < 256 → memoryCommand byte ≡ beginning command byte → a < 65536 → Ready n (c at awaitingMemory)
+      → Goes n (c at awaitingMemory) (slots (bitsOfBytes (header byte a))) (bitsOfBytes (header byte a))
+      (c at Memory (addressed n command a (crc16Of (header byte a)) (c .image)))
+  unfolding bitsOfBytes received beginning crcBytes
+  header-in c command byte a lt e la ok =
+      let first = rw e at (byte-in n whole c CommandByte 0 byte lt ok) in
+      let ok₁ = ready n whole ok first in
+      let second = byte-in n whole c (AddressLow command) (crc16Byte 0 byte) (a % 256) (omega arith) ok₁ in
+      let ok₂ = ready n whole ok₁ second in
+      let third = rw (parts a) at (byte-in n whole c (AddressHigh command (a % 256)) (crc16Byte (crc16Byte 0 byte) (a % 256)) (a / 256) (omega arith) ok₂) in
+      simp (append-nil, slots-append) (first then second then third)
+
+  -- ---- the commands that read
+
+  draws : (c : Chip) {ms ls : List Bool} (command : Command) (byte a : ℕ) {stream : List Bool} → Ready n c → Selection (c .state .number) ms ls
+      → byte < 256 → memoryCommand byte ≡ beginning command byte → a < 65536
+      → Sends n (c .image) (addressed n command a (crc16Of (header byte a)) (c .image)) stream Silent
+      → Draws n c ms ls (header byte a) stream
+  draws c {ms} {ls} command byte a {stream} ok sel lt e la sends rs =
+      let sent = bitsOfBytes (header byte a) in
+      let line = lines rs (thenOnes stream (length rs)) in
+      let first = selects c ok sel in
+      let ok₁ = ready n whole ok first in
+      let second = header-in c command byte a lt e la ok₁ in
+      rw (slots-append ms (sent ++ rs), slots-append sent rs)
+      (further (slots sent ++ slots rs) (sent ++ line) first (further (slots rs) line second (draws-stream n whole c rs sends (ready n whole ok₁ second))))
+
+  pub read-sessions : n ≤ 256 → ReadLaws n
+  unfolding memoryCommand addressed
+  read-sessions low =
+      record {
+        memory = λ c a ok sel lt. draws c ReadMemory 0xF0 a ok sel (lit< tt) refl (omega arith) (read-laws n whole low .memory (c .image) a lt);
+        status = λ c a ok sel lt. draws c ReadStatus 0xAA a ok sel (lit< tt) refl (omega arith) (read-laws n whole low .status (c .image) a lt);
+        extended = λ c a ok sel lt. draws c ExtendedRead 0xA5 a ok sel (lit< tt) refl (omega arith) (read-laws n whole low .extended (c .image) a lt);
+      }
+
+  -- ---- what silences the chip
+
+  -- a session up to the address
+  pub up-to-address : (c : Chip) {ms ls : List Bool} (command : Command) (byte a : ℕ) → Ready n c → Selection (c .state .number) ms ls
+      → byte < 256 → memoryCommand byte ≡ beginning command byte → a < 65536
+      → Goes n c (Reset ∷ slots (ms ++ bitsOfBytes (header byte a))) (false ∷ (ls ++ bitsOfBytes (header byte a)))
+      (c at Memory (addressed n command a (crc16Of (header byte a)) (c .image)))
+  up-to-address c {ms} command byte a ok sel lt e la =
+      let first = selects c ok sel in
+      rw (slots-append ms (bitsOfBytes (header byte a))) (first then header-in c command byte a lt e la (ready n whole ok first))
+
+  no-address : (space : Space) (a : ℕ) → limitOf n space ≤ a → isAddress n space a ≡ false
+  unfolding isAddress
+  no-address space a le = le-ltb a (limitOf n space) le
+
+  too-high : (c : Chip) {ms ls : List Bool} (command : Command) (byte a : ℕ) → Ready n c → Selection (c .state .number) ms ls
+      → byte < 256 → memoryCommand byte ≡ beginning command byte → a < 65536
+      → addressed n command a (crc16Of (header byte a)) (c .image) ≡ Silent
+      → Goes n c (Reset ∷ slots (ms ++ bitsOfBytes (header byte a))) (false ∷ (ls ++ bitsOfBytes (header byte a))) (c at silent)
+  too-high c command byte a ok sel lt e la z = rw z at (up-to-address c command byte a ok sel lt e la)
+
+  write-too-high : (c : Chip) {ms ls : List Bool} (a : ℕ) → Ready n c → Selection (c .state .number) ms ls → a < 65536 → (space : Space) → limitOf n space ≤ a
+      → Goes n c (Reset ∷ slots (ms ++ bitsOfBytes (header (writeCommand space) a))) (false ∷ (ls ++ bitsOfBytes (header (writeCommand space) a))) (c at silent)
+  unfolding memoryCommand addressed startWrite
+  write-too-high c a ok sel la Data le = too-high c (Write Data) 0x0F a ok sel (lit< tt) refl la (simp (no-address Data a le))
+  write-too-high c a ok sel la Status le = too-high c (Write Status) 0x55 a ok sel (lit< tt) refl la (simp (no-address Status a le))
+
+  pub silences : SilenceLaws n
+  unfolding memoryCommand addressed startMemory startStatus startExtended received limitOf
+  silences =
+      record {
+        unknown = λ c {ms} {ls} byte ok sel lt h₁ h₂ h₃ h₄ h₅.
+            let first = selects c ok sel in
+            let e : memoryCommand byte ≡ Silent = simp (h₁, h₂, h₃, h₄, h₅) in
+            rw (slots-append ms (bitsOf 8 byte)) (first then rw e at (byte-in n whole c CommandByte 0 byte lt (ready n whole ok first)));
+        too-high = λ c {ms} {ls} a ok sel la. (
+          (λ le. too-high c ReadMemory 0xF0 a ok sel (lit< tt) refl la (simp (no-address Data a le))),
+          (λ le. too-high c ReadStatus 0xAA a ok sel (lit< tt) refl la (simp (no-address Status a le))),
+          (λ le. too-high c ExtendedRead 0xA5 a ok sel (lit< tt) refl la (simp (no-address Data a le))),
+          write-too-high c a ok sel la,
+        );
+      }
+
+pub rom-sessions : (n : ℕ) → n % 8 ≡ 0 → RomLaws n
+rom-sessions n whole =
+    record { selects = selects n whole; mismatched = mismatched n whole; lost = lost n whole; unknown = unknown-rom n whole }

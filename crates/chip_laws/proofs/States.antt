@@ -1,0 +1,161 @@
+-- Events keep a chip within its ranges; what changes the image; armed and silent chips.
+use Prim.Native.Nat.{ℕ, _+_, _*_, _%_, _<_, _≤_}
+use mathlib.Core.Path.{_≡_, refl, sym, ap, ap₂, _∙_, subst}
+use mathlib.Core.Bool.{Bool, true, false, cond, _&&_}
+use mathlib.Core.List.{List, [], _∷_, _++_, map}
+use native.Mathlib.Omega.{arith}
+use lib.ListN.{length}
+use Rattle.terms.specs.Told.{Told, refused, accepted}
+use Rattle.terms.specs.declared.address.Target.{Target}
+use Rattle.bus.specs.declared.Event.{Event}
+use Rattle.bus.specs.declared.Event.the-variants.{Reset, Slot, Pulse, PowerLoss}
+use Rattle.memory.specs.Layout.{imageSize}
+use Rattle.memory.specs.Write.{programmed}
+use Rattle.memory.proofs.Gaps.{programmed-length}
+use Rattle.rom_function.specs.declared.RomStage.{RomStage}
+use Rattle.rom_function.specs.declared.RomOutcome.{RomOutcome}
+use Rattle.rom_function.specs.declared.RomOutcome.the-variants.{Stays, Selected, Deselected}
+use Rattle.rom_function.specs.Rom.{romSlot, romInRange}
+use Rattle.rom_laws.proofs.Sessions.{rom-laws}
+use Rattle.memory_function.specs.declared.stage.MemoryStage.{MemoryStage}
+use Rattle.memory_function.specs.declared.stage.MemoryStage.the-variants.{Silent, Receive, Send, Armed}
+use Rattle.memory_function.specs.Stages.{receiving}
+use Rattle.memory_function.specs.Functions.{memorySlot, memoryBit, pulseImage, pulseStage}
+use Rattle.memory_function.specs.Ranges.{memoryInRange, receiveInRange, incomingInRange}
+use Rattle.range_laws.specs.Ranges.{RangeLaws}
+use Rattle.range_laws.proofs.Keeps.{range-laws}
+use Rattle.chip.specs.declared.event.Stage.{Stage}
+use Rattle.chip.specs.declared.event.Stage.the-variants.{Rom, Memory}
+use Rattle.chip.specs.declared.event.State.{State}
+use Rattle.chip.specs.Page.{unlessRefused}
+use Rattle.chip.specs.Event.{silent, awaitingMemory, powerUp, leading, stageSlot, stageBit, pulseImageOf, stagePulse, inRange, replyOf, imageAfter, stageAfter, stateUnless, eventAnswer, eventState, eventImage}
+use Rattle.chip.specs.Run.{Chip, next, draws, run, answers}
+use Rattle.chip_laws.specs.Session.{Ready, _at_, Goes}
+use Rattle.chip_laws.specs.Laws.{isArmed, isPulse, isReset, silentReply, StateLaws}
+use Rattle.chip_laws.proofs.Runs.{event, next-is, after}
+
+pub and-true : (b : Bool) → (b && true) ≡ b
+and-true true = refl
+and-true false = refl
+
+-- ---- ranges
+
+module _ (n : ℕ) (whole : n % 8 ≡ 0) where
+  leading-kept : (o : RomOutcome) → ((s : RomStage) → o ≡ Stays s → romInRange s ≡ true) → inRange n (leading o) ≡ true
+  unfolding leading inRange receiving memoryInRange receiveInRange incomingInRange
+  leading-kept (Stays s) h = h s refl
+  leading-kept Selected h = refl
+  leading-kept Deselected h = refl
+
+  slot-kept : (s : Stage) (bit : Bool) (number img : List ℕ) → inRange n s ≡ true → inRange n (stageSlot n s bit number img) ≡ true
+  unfolding stageSlot inRange
+  slot-kept (Rom r) bit number img h = leading-kept (romSlot r bit number) (λ s e. rom-laws .kept r s bit number h e)
+  slot-kept (Memory m) bit number img h = range-laws n whole .slot m bit img h
+
+  pulse-kept : (s : Stage) (img : List ℕ) → inRange n s ≡ true → inRange n (stagePulse n s img) ≡ true
+  unfolding stagePulse inRange
+  pulse-kept (Rom r) img h = h
+  pulse-kept (Memory m) img h = range-laws n whole .pulse m img h
+
+  stage-kept : (s : Stage) (e : Event) (number img : List ℕ) → inRange n s ≡ true → inRange n (stageAfter n s e number img) ≡ true
+  unfolding stageAfter
+  stage-kept s Reset number img h = unfold inRange romInRange in refl
+  stage-kept s (Slot bit) number img h = slot-kept s bit number img h
+  stage-kept s Pulse number img h = pulse-kept s img h
+  stage-kept s PowerLoss number img h = unfold inRange memoryInRange in refl
+
+  pulse-length : (s : Stage) (img : List ℕ) → length (pulseImageOf n s img) ≡ length img
+  unfolding pulseImageOf pulseImage
+  pulse-length (Rom r) img = refl
+  pulse-length (Memory Silent) img = refl
+  pulse-length (Memory (Receive i k register crc)) img = refl
+  pulse-length (Memory (Send o left v crc)) img = refl
+  pulse-length (Memory (Armed t byte)) img = programmed-length n img t byte
+
+  image-length : (s : Stage) (e : Event) (img : List ℕ) → length (imageAfter n s e img) ≡ length img
+  unfolding imageAfter
+  image-length s Reset img = refl
+  image-length s (Slot bit) img = refl
+  image-length s Pulse img = pulse-length s img
+  image-length s PowerLoss img = refl
+
+  pub ready-after : (c : Chip) (e : Event) (ok : Ready n c) → Ready n (after n c ok e)
+  ready-after c e ok =
+      record {
+        sized = image-length (c .state .stage) e (c .image) ∙ ok .sized;
+        ranged = stage-kept (c .state .stage) e (c .state .number) (imageAfter n (c .state .stage) e (c .image)) (ok .ranged);
+        eight = ok .eight;
+      }
+
+  pub keeps : (c : Chip) (e : Event) → Ready n c → Ready n (next n c e)
+  keeps c e ok = subst (Ready n) (sym (next-is n c ok e)) (ready-after c e ok)
+
+-- ---- what changes the image, and what the number
+
+module _ (n : ℕ) where
+  unarmed : (s : Stage) (img : List ℕ) → isArmed s ≡ false → pulseImageOf n s img ≡ img
+  unfolding pulseImageOf pulseImage
+  unarmed (Rom r) img h = refl
+  unarmed (Memory Silent) img h = refl
+  unarmed (Memory (Receive i k register crc)) img h = refl
+  unarmed (Memory (Send o left v crc)) img h = refl
+  unarmed (Memory (Armed t byte)) img h = absurd (let z : _≡_ {A = ℕ} 0 1 = cc in omega arith)
+
+  same-image : (s : Stage) (e : Event) (img : List ℕ) → (isPulse e && isArmed s) ≡ false → imageAfter n s e img ≡ img
+  unfolding imageAfter
+  same-image s Reset img h = refl
+  same-image s (Slot bit) img h = refl
+  same-image s Pulse img h = unarmed s img h
+  same-image s PowerLoss img h = refl
+
+  either-image : (t : Told Bool) (new old : List ℕ) → new ≡ old → unlessRefused t new old ≡ old
+  either-image (accepted r) new old e = e
+  either-image (refused k vs) new old e = refl
+
+  pub image-kept : (c : Chip) (e : Event) → (isPulse e && isArmed (c .state .stage)) ≡ false → next n c e .image ≡ c .image
+  unfolding eventImage
+  image-kept c e h = either-image (draws n c e) _ _ (same-image (c .state .stage) e (c .image) h)
+
+  either-number : (t : Told Bool) (new old : State) → new .number ≡ old .number → stateUnless t new old .number ≡ old .number
+  either-number (accepted r) new old e = e
+  either-number (refused k vs) new old e = refl
+
+  pub number-kept : (c : Chip) (e : Event) → next n c e .state .number ≡ c .state .number
+  unfolding eventState
+  number-kept c e = either-number (draws n c e) _ (c .state) refl
+
+  pub armed-pulse : (c : Chip) (t : Target) (byte : ℕ) → c .state .stage ≡ Memory (Armed t byte) → Ready n c
+      → next n c Pulse .image ≡ programmed n (c .image) t byte
+  armed-pulse c t byte e ok =
+      ap (λ (d : Chip). d .image) (next-is n c ok Pulse)
+      ∙ unfold imageAfter pulseImageOf pulseImage in ap (λ s. imageAfter n s Pulse (c .image)) e
+
+  pub armed-slot : (c : Chip) (t : Target) (byte : ℕ) (bit : Bool) → Ready n (c at Memory (Armed t byte))
+      → Goes n (c at Memory (Armed t byte)) (Slot bit ∷ []) (bit ∷ []) (c at silent)
+  unfolding replyOf stageBit memoryBit stageAfter stageSlot memorySlot imageAfter
+  armed-slot c t byte bit ok = rw (and-true bit) at (event n (c at Memory (Armed t byte)) ok (Slot bit))
+
+  pub silent-stays : (c : Chip) (e : Event) → Ready n (c at silent) → isReset e ≡ false → Goes n (c at silent) (e ∷ []) (silentReply e ∷ []) (c at silent)
+  unfolding replyOf stageBit memoryBit stageAfter stageSlot memorySlot imageAfter pulseImageOf pulseImage stagePulse pulseStage
+  silent-stays c Reset ok h = absurd (let z : _≡_ {A = ℕ} 0 1 = cc in omega arith)
+  silent-stays c (Slot bit) ok h = rw (and-true bit) at (event n (c at silent) ok (Slot bit))
+  silent-stays c Pulse ok h = event n (c at silent) ok Pulse
+  silent-stays c PowerLoss ok h = event n (c at silent) ok PowerLoss
+
+  pub power-loss : (c : Chip) → Ready n c → Goes n c (PowerLoss ∷ []) (true ∷ []) (c at silent)
+  unfolding replyOf stageAfter imageAfter
+  power-loss c ok = event n c ok PowerLoss
+
+pub state-laws : (n : ℕ) → n % 8 ≡ 0 → StateLaws n
+unfolding powerUp
+state-laws n whole =
+    record {
+      power-up = λ number img s e. record { sized = s; ranged = unfold inRange memoryInRange in refl; eight = e };
+      keeps = keeps n whole;
+      image-kept = image-kept n;
+      number-kept = number-kept n;
+      armed-pulse = armed-pulse n;
+      armed-slot = armed-slot n;
+      silent-stays = silent-stays n;
+      power-loss = power-loss n;
+    }

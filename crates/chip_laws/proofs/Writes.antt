@@ -1,0 +1,136 @@
+-- The two commands that write, over whole sessions.
+use Prim.Native.Nat.{ℕ, zero, suc, _+_, _*_, _/_, _%_, _<_, _≤_}
+use mathlib.Core.Path.{_≡_, refl, sym, ap, ap₂, _∙_, subst}
+use mathlib.Core.Bool.{Bool, true, false, cond, _&&_}
+use mathlib.Core.List.{List, [], _∷_, _++_, map, append-nil}
+use native.Mathlib.Omega.{arith}
+use native.Mathlib.Nat.{add-zero}
+use lib.Dec.{ltb, lit<}
+use lib.ListN.{length, getD, length-replicate}
+use borrow.Author.Tests.{lt-ltb, le-ltb}
+use Rattle.terms.specs.Bits.{bitsOf, bitsOfBytes}
+use Rattle.terms.specs.declared.address.Space.{Space}
+use Rattle.terms.specs.declared.address.Space.the-variants.{Data, Status}
+use Rattle.terms.specs.declared.address.Target.{Target}
+use Rattle.bus.specs.declared.Event.{Event}
+use Rattle.bus.specs.declared.Event.the-variants.{Reset, Pulse}
+use Rattle.bus.specs.Slots.{slots, ones, reading, lines}
+use Rattle.crc.specs.Crc.{crcBytes, crc16Byte, crc16From, crc16Of, crc16Word}
+use Rattle.memory.specs.Image.{targetByte}
+use Rattle.memory.specs.Write.{programmed}
+use Rattle.memory_function.specs.declared.stage.Command.the-variants.{Write}
+use Rattle.memory_function.specs.declared.stage.Incoming.the-variants.{Data as DataByte}
+use Rattle.memory_function.specs.declared.stage.Outgoing.the-variants.{WriteCrc, ReadBack}
+use Rattle.memory_function.specs.declared.stage.MemoryStage.{MemoryStage}
+use Rattle.memory_function.specs.declared.stage.MemoryStage.the-variants.{Silent, Armed}
+use Rattle.memory_function.specs.Limits.{limitOf, isAddress, targetAt}
+use Rattle.memory_function.specs.Stages.{receiving}
+use Rattle.memory_function.specs.Writes.{startWrite, raised, nextWrite, readingBack}
+use Rattle.memory_function.specs.Functions.{received, sent, memoryCommand, addressed, pulseImage, pulseStage}
+use Rattle.function_laws.specs.Streams.{header}
+use Rattle.function_laws.specs.Writes.{writtenFrom}
+use Rattle.function_laws.proofs.Sending.{byte-out, crc-out}
+use Rattle.chip.specs.declared.event.Stage.{Stage}
+use Rattle.chip.specs.declared.event.Stage.the-variants.{Memory}
+use Rattle.chip.specs.Event.{silent, replyOf, imageAfter, stageAfter, pulseImageOf, stagePulse}
+use Rattle.chip.specs.Run.{Chip}
+use Rattle.chip_laws.specs.Session.{Ready, _at_, _holding_, Goes, Selection, writeCommand, writeEvents, writeLines, beforeByte}
+use Rattle.chip_laws.specs.Laws.{WriteLaws}
+use Rattle.chip_laws.proofs.Runs.{stays, _then_, event}
+use Rattle.chip_laws.proofs.Slots.{slots-append, lines-read, bits-length, ready, over-memory, byte-in}
+use Rattle.chip_laws.proofs.Sessions.{up-to-address}
+
+module _ (n : ℕ) (whole : n % 8 ≡ 0) where
+  -- ---- one byte
+
+  abbrev after : Chip → Target → ℕ → List ℕ
+  after c t byte = programmed n (c .image) t byte
+
+  crc-read : (c : Chip) (t : Target) (byte crc : ℕ) → Ready n (c at Memory (received n (DataByte t) byte crc (c .image)))
+      → Goes n (c at Memory (received n (DataByte t) byte crc (c .image))) (reading 16) (bitsOf 16 (crc16Word (crc16Byte crc byte))) (c at Memory (Armed t byte))
+  unfolding received sent
+  crc-read c t byte crc ok =
+      rw (lines-read 16 (bitsOf 16 (crc16Word (crc16Byte crc byte))) (bits-length 16 (crc16Word (crc16Byte crc byte)))) at
+      (over-memory n whole c (ones 16) (crc-out n (c .image) (WriteCrc t byte) (crc16Byte crc byte)) (sym (bits-length 16 (crc16Word (crc16Byte crc byte)))) ok)
+
+  fires : (c : Chip) (t : Target) (byte : ℕ) → Ready n (c at Memory (Armed t byte))
+      → Goes n (c at Memory (Armed t byte)) (Pulse ∷ []) (true ∷ []) ((c at Memory (readingBack n t (after c t byte))) holding after c t byte)
+  unfolding replyOf imageAfter stageAfter pulseImageOf pulseImage stagePulse pulseStage
+  fires c t byte ok = event n (c at Memory (Armed t byte)) ok Pulse
+
+  back-read : (c : Chip) (t : Target) → Ready n (c at Memory (readingBack n t (c .image)))
+      → Goes n (c at Memory (readingBack n t (c .image))) (reading 8) (bitsOf 8 (targetByte n (c .image) t)) (c at Memory (nextWrite n t))
+  unfolding readingBack sent
+  back-read c t ok =
+      rw (lines-read 8 (bitsOf 8 (targetByte n (c .image) t)) (bits-length 8 (targetByte n (c .image) t))) at
+      (over-memory n whole c (ones 8) (byte-out n (c .image) (ReadBack t) (targetByte n (c .image) t) 0) (sym (bits-length 8 (targetByte n (c .image) t))) ok)
+
+  one-byte : (c : Chip) (t : Target) (byte crc : ℕ) → byte < 256 → Ready n (c at Memory (receiving (DataByte t) crc))
+      → Goes n (c at Memory (receiving (DataByte t) crc)) (slots (bitsOf 8 byte) ++ (reading 16 ++ (Pulse ∷ reading 8)))
+      (bitsOf 8 byte ++ (bitsOf 16 (crc16Word (crc16Byte crc byte)) ++ (true ∷ bitsOf 8 (targetByte n (after c t byte) t))))
+      ((c at Memory (nextWrite n t)) holding after c t byte)
+  one-byte c t byte crc lt ok =
+      let first = byte-in n whole c (DataByte t) crc byte lt ok in
+      let ok₁ = ready n whole ok first in
+      let second = crc-read c t byte crc ok₁ in
+      let ok₂ = ready n whole ok₁ second in
+      let third = fires c t byte ok₂ in
+      first then second then third then back-read (c holding after c t byte) t (ready n whole ok₂ third)
+
+  -- ---- one byte after the other
+
+  pub next-target : (space : Space) (a : ℕ) → nextWrite n (targetAt space a) ≡ raised n space a
+  unfolding nextWrite targetAt
+  next-target Data a = refl
+  next-target Status a = refl
+
+  memory-cond : (t : Bool) (x y : MemoryStage) → Memory (cond t x y) ≡ cond t (Memory x) (Memory y)
+  memory-cond true x y = refl
+  memory-cond false x y = refl
+
+  next-byte : (space : Space) (a : ℕ) → Memory (nextWrite n (targetAt space a)) ≡ beforeByte n space (a + 1)
+  unfolding raised beforeByte
+  next-byte space a = ap Memory (next-target space a) ∙ memory-cond (ltb (a + 1) (limitOf n space)) _ _
+
+  before-is : (space : Space) (a : ℕ) → a < limitOf n space → beforeByte n space a ≡ Memory (receiving (DataByte (targetAt space a)) a)
+  unfolding beforeByte
+  before-is space a lt = simp (lt-ltb a (limitOf n space) lt)
+
+  write-bytes : (c : Chip) (space : Space) (a crc byte : ℕ) (bytes : List ℕ) → a + suc (length bytes) ≤ limitOf n space
+      → ((i : ℕ) → i < suc (length bytes) → getD (byte ∷ bytes) i 0 < 256) → Ready n (c at Memory (receiving (DataByte (targetAt space a)) crc))
+      → Goes n (c at Memory (receiving (DataByte (targetAt space a)) crc)) (writeEvents (byte ∷ bytes)) (writeLines n (c .image) space a crc (byte ∷ bytes))
+      ((c at beforeByte n space (a + suc (length bytes))) holding writtenFrom n (c .image) space a (byte ∷ bytes))
+  unfolding writeEvents writeLines writtenFrom crcBytes
+  write-bytes c space a crc byte [] le small ok =
+      simp append-nil (rw (next-byte space a) at (one-byte c (targetAt space a) byte crc (small 0 (omega arith)) ok))
+  write-bytes c space a crc byte (byte′ ∷ bytes) le small ok =
+      let first = rw (next-byte space a, before-is space (a + 1) (omega arith)) at (one-byte c (targetAt space a) byte crc (small 0 (omega arith)) ok) in
+      let rest = write-bytes (c holding after c (targetAt space a) byte) space (a + 1) (a + 1) byte′ bytes (omega arith) (λ i lt. small (suc i) (omega arith)) (ready n whole ok first) in
+      let last : a + 1 + suc (length bytes) ≡ a + suc (suc (length bytes)) = omega arith in
+      first then rw last at rest
+
+  limit-low : n ≤ 256 → (space : Space) → limitOf n space ≤ 65536
+  unfolding limitOf
+  limit-low low Data = omega arith
+  limit-low low Status = omega arith
+
+  is-write : (space : Space) (a : ℕ) (c : Chip) {ms ls : List Bool} → Ready n c → Selection (c .state .number) ms ls → a < 65536 → a < limitOf n space
+      → Goes n c (Reset ∷ slots (ms ++ bitsOfBytes (header (writeCommand space) a))) (false ∷ (ls ++ bitsOfBytes (header (writeCommand space) a)))
+      (c at Memory (receiving (DataByte (targetAt space a)) (crc16Of (header (writeCommand space) a))))
+  unfolding memoryCommand addressed startWrite isAddress
+  is-write Data a c ok sel la lt = rw (lt-ltb a (limitOf n Data) lt) at (up-to-address n whole c (Write Data) 0x0F a ok sel (lit< tt) refl la)
+  is-write Status a c ok sel la lt = rw (lt-ltb a (limitOf n Status) lt) at (up-to-address n whole c (Write Status) 0x55 a ok sel (lit< tt) refl la)
+
+  writes : n ≤ 256 → (c : Chip) {ms ls : List Bool} (space : Space) (a : ℕ) (bytes : List ℕ) → Ready n c → Selection (c .state .number) ms ls
+      → a + length bytes ≤ limitOf n space → ((i : ℕ) → i < length bytes → getD bytes i 0 < 256) → 0 < length bytes
+      → Goes n c
+      (Reset ∷ (slots (ms ++ bitsOfBytes (header (writeCommand space) a)) ++ writeEvents bytes))
+      (false ∷ ((ls ++ bitsOfBytes (header (writeCommand space) a)) ++ writeLines n (c .image) space a (crc16Of (header (writeCommand space) a)) bytes))
+      ((c at beforeByte n space (a + length bytes)) holding writtenFrom n (c .image) space a bytes)
+  writes low c space a [] ok sel le small some = absurd (omega arith)
+  writes low c space a (byte ∷ bytes) ok sel le small some =
+      let first = is-write space a c ok sel (omega (arith, limit-low low space)) (omega arith) in
+      first then write-bytes c space a (crc16Of (header (writeCommand space) a)) byte bytes le small (ready n whole ok first)
+
+pub write-sessions : (n : ℕ) → n % 8 ≡ 0 → n ≤ 256 → WriteLaws n
+write-sessions n whole low = record { write = writes n whole low }

@@ -1,0 +1,132 @@
+-- What the chip does over whole sessions, in the data sheet's terms, over the page count n.
+use Prim.Native.Nat.{ℕ, _+_, _-_, _<_, _≤_}
+use mathlib.Core.Path.{_≡_}
+use mathlib.Core.Bool.{Bool, true, false, not, _&&_}
+use mathlib.Core.List.{List, [], _∷_, _++_, map}
+use lib.ListN.{length, getD}
+use lib.Dec.{eqb}
+use Rattle.terms.specs.Bits.{bitsOf, bitsOfBytes}
+use Rattle.terms.specs.Told.{accepted}
+use Rattle.terms.specs.declared.address.Space.{Space}
+use Rattle.terms.specs.declared.address.Target.{Target}
+use Rattle.bus.specs.declared.Event.{Event}
+use Rattle.bus.specs.declared.Event.the-variants.{Reset, Slot, Pulse, PowerLoss}
+use Rattle.bus.specs.Slots.{slots, lines}
+use Rattle.crc.specs.Crc.{crc16Of}
+use Rattle.memory.specs.Layout.{dataSize, statusSize, imageSize}
+use Rattle.memory.specs.Write.{programmed}
+use Rattle.memory_function.specs.declared.stage.MemoryStage.the-variants.{Silent, Receive, Send, Armed}
+use Rattle.memory_function.specs.Limits.{limitOf}
+use Rattle.rom_function.specs.Rom.{numberBit}
+use Rattle.rom_laws.specs.Rom.{Ask, numberBits, searchBits, searchSent}
+use Rattle.function_laws.specs.Streams.{header, memoryStream, statusStream, extendedStream}
+use Rattle.function_laws.specs.Writes.{writtenFrom}
+use Rattle.chip.specs.declared.event.Stage.{Stage}
+use Rattle.chip.specs.declared.event.Stage.the-variants.{Rom, Memory}
+use Rattle.chip.specs.Event.{silent, awaitingMemory, powerUp}
+use Rattle.chip.specs.Run.{Chip, next, answers}
+use Rattle.chip_laws.specs.Session.{Ready, _at_, _holding_, Goes, Selection, thenOnes, writeCommand, writeEvents, writeLines, beforeByte}
+
+-- ---- states and images
+
+abbrev pub isArmed : Stage → Bool
+isArmed (Rom r) = false
+isArmed (Memory Silent) = false
+isArmed (Memory (Receive i k register crc)) = false
+isArmed (Memory (Send o left v crc)) = false
+isArmed (Memory (Armed t byte)) = true
+
+abbrev pub isPulse : Event → Bool
+isPulse Reset = false
+isPulse (Slot bit) = false
+isPulse Pulse = true
+isPulse PowerLoss = false
+
+-- what a silent chip draws: the master's bit in a slot
+abbrev pub silentReply : Event → Bool
+silentReply Reset = false
+silentReply (Slot bit) = bit
+silentReply Pulse = true
+silentReply PowerLoss = true
+
+abbrev pub isReset : Event → Bool
+isReset Reset = true
+isReset (Slot bit) = false
+isReset Pulse = false
+isReset PowerLoss = false
+
+pub record StateLaws (n : ℕ) : Type 0 where
+  -- a chip at power-up, with an image of the right length and a number of eight bytes, is within its ranges; an event keeps it there
+  pub power-up : (number img : List ℕ) → length img ≡ imageSize n → length number ≡ 8 → Ready n (record { state = powerUp number; image = img })
+  pub keeps : (c : Chip) (e : Event) → Ready n c → Ready n (next n c e)
+  -- no event but a pulse on an armed chip changes the image, and none the number, whatever the state and the image
+  pub image-kept : (c : Chip) (e : Event) → (isPulse e && isArmed (c .state .stage)) ≡ false → next n c e .image ≡ c .image
+  pub number-kept : (c : Chip) (e : Event) → next n c e .state .number ≡ c .state .number
+  -- a pulse on an armed chip ANDs the byte into the target, unless that is protected or a gap
+  pub armed-pulse : (c : Chip) (t : Target) (byte : ℕ) → c .state .stage ≡ Memory (Armed t byte) → Ready n c
+      → next n c Pulse .image ≡ programmed n (c .image) t byte
+  -- a slot when armed silences the chip
+  pub armed-slot : (c : Chip) (t : Target) (byte : ℕ) (bit : Bool) → Ready n (c at Memory (Armed t byte))
+      → Goes n (c at Memory (Armed t byte)) (Slot bit ∷ []) (bit ∷ []) (c at silent)
+  -- a silent chip stays so until reset, replying with the master's bit
+  pub silent-stays : (c : Chip) (e : Event) → Ready n (c at silent) → isReset e ≡ false → Goes n (c at silent) (e ∷ []) (silentReply e ∷ []) (c at silent)
+  -- power loss keeps the image and makes the chip silent
+  pub power-loss : (c : Chip) → Ready n c → Goes n c (PowerLoss ∷ []) (true ∷ []) (c at silent)
+
+-- ---- ROM commands
+
+pub record RomLaws (n : ℕ) : Type 0 where
+  -- reset is answered by presence, and each ROM command that succeeds opens the memory commands
+  pub selects : (c : Chip) {ms ls : List Bool} → Ready n c → Selection (c .state .number) ms ls → Goes n c (Reset ∷ slots ms) (false ∷ ls) (c at awaitingMemory)
+  -- Match is silent from its first wrong bit, bit k, on
+  pub mismatched : (c : Chip) (k : ℕ) → Ready n c → k < 64
+      → let number = c .state .number in
+      let ms = bitsOf 8 0x55 ++ (numberBits number 0 k ++ (not (numberBit number k) ∷ [])) in
+      Goes n c (Reset ∷ slots ms) (false ∷ ms) (c at silent)
+  -- Search is silent from the first disagreement, at bit k, on
+  pub lost : (c : Chip) (k : ℕ) (asks : List Ask) (a : Ask) → Ready n c → k < 64 → length asks ≡ k
+      → let number = c .state .number in
+      let ms = searchBits number 0 asks ++ (a .first ∷ a .second ∷ not (numberBit number k) ∷ []) in
+      Goes n c (Reset ∷ slots (bitsOf 8 0xF0 ++ ms)) (false ∷ (bitsOf 8 0xF0 ++ lines ms (searchSent number 0 (k + 1)))) (c at silent)
+  -- any other ROM byte silences the chip
+  pub unknown : (c : Chip) (byte : ℕ) → Ready n c → byte < 256 → (eqb byte 0x33 ≡ false) → (eqb byte 0x55 ≡ false) → (eqb byte 0xF0 ≡ false) → (eqb byte 0xCC ≡ false)
+      → Goes n c (Reset ∷ slots (bitsOf 8 byte)) (false ∷ bitsOf 8 byte) (c at silent)
+
+-- ---- memory commands, after a reset and a ROM command that succeeds
+
+-- what a command that reads draws with any further master bits rs: its stream and then ones for ever
+abbrev pub Draws : ℕ → Chip → List Bool → List Bool → List ℕ → List Bool → Type 0
+Draws n c ms ls sent stream = (rs : List Bool)
+    → answers n c (Reset ∷ slots (ms ++ (bitsOfBytes sent ++ rs))) ≡ map accepted (false ∷ (ls ++ (bitsOfBytes sent ++ lines rs (thenOnes stream (length rs)))))
+
+pub record ReadLaws (n : ℕ) : Type 0 where
+  pub memory : (c : Chip) {ms ls : List Bool} (a : ℕ) → Ready n c → Selection (c .state .number) ms ls → a < dataSize n
+      → Draws n c ms ls (header 0xF0 a) (memoryStream n (c .image) a)
+  pub status : (c : Chip) {ms ls : List Bool} (a : ℕ) → Ready n c → Selection (c .state .number) ms ls → a < statusSize n
+      → Draws n c ms ls (header 0xAA a) (statusStream n (c .image) a)
+  pub extended : (c : Chip) {ms ls : List Bool} (a : ℕ) → Ready n c → Selection (c .state .number) ms ls → a < dataSize n
+      → Draws n c ms ls (header 0xA5 a) (extendedStream n (c .image) a)
+
+pub record WriteLaws (n : ℕ) : Type 0 where
+  -- bytes from address a of either memory on
+  pub write : (c : Chip) {ms ls : List Bool} (space : Space) (a : ℕ) (bytes : List ℕ) → Ready n c → Selection (c .state .number) ms ls
+      → a + length bytes ≤ limitOf n space → ((i : ℕ) → i < length bytes → getD bytes i 0 < 256) → 0 < length bytes
+      → Goes n c
+      (Reset ∷ (slots (ms ++ bitsOfBytes (header (writeCommand space) a)) ++ writeEvents bytes))
+      (false ∷ ((ls ++ bitsOfBytes (header (writeCommand space) a)) ++ writeLines n (c .image) space a (crc16Of (header (writeCommand space) a)) bytes))
+      ((c at beforeByte n space (a + length bytes)) holding writtenFrom n (c .image) space a bytes)
+
+-- ---- what silences the chip
+
+pub record SilenceLaws (n : ℕ) : Type 0 where
+  -- a memory command byte that is none of the five
+  pub unknown : (c : Chip) {ms ls : List Bool} (byte : ℕ) → Ready n c → Selection (c .state .number) ms ls → byte < 256
+      → (eqb byte 0xF0 ≡ false) → (eqb byte 0xAA ≡ false) → (eqb byte 0xA5 ≡ false) → (eqb byte 0x0F ≡ false) → (eqb byte 0x55 ≡ false)
+      → Goes n c (Reset ∷ slots (ms ++ bitsOf 8 byte)) (false ∷ (ls ++ bitsOf 8 byte)) (c at silent)
+  -- a start address that the memory does not have, as its last bit arrives
+  pub too-high : (c : Chip) {ms ls : List Bool} (a : ℕ) → Ready n c → Selection (c .state .number) ms ls → a < 65536
+      → (dataSize n ≤ a → Goes n c (Reset ∷ slots (ms ++ bitsOfBytes (header 0xF0 a))) (false ∷ (ls ++ bitsOfBytes (header 0xF0 a))) (c at silent))
+      × (statusSize n ≤ a → Goes n c (Reset ∷ slots (ms ++ bitsOfBytes (header 0xAA a))) (false ∷ (ls ++ bitsOfBytes (header 0xAA a))) (c at silent))
+      × (dataSize n ≤ a → Goes n c (Reset ∷ slots (ms ++ bitsOfBytes (header 0xA5 a))) (false ∷ (ls ++ bitsOfBytes (header 0xA5 a))) (c at silent))
+      × ((space : Space) → limitOf n space ≤ a
+      → Goes n c (Reset ∷ slots (ms ++ bitsOfBytes (header (writeCommand space) a))) (false ∷ (ls ++ bitsOfBytes (header (writeCommand space) a))) (c at silent))

@@ -1,0 +1,88 @@
+-- A session with the chip: the events, what they draw, and where they lead. n is the page count.
+use Prim.Native.Nat.{ℕ, zero, suc, _+_}
+use mathlib.Core.Path.{_≡_}
+use mathlib.Core.Bool.{Bool, true, false, cond}
+use mathlib.Core.List.{List, [], _∷_, _++_, map}
+use lib.Dec.{ltb}
+use lib.ListN.{length}
+use Rattle.terms.specs.Bits.{bitsOf, bitsOfBytes}
+use Rattle.terms.specs.Told.{Told, accepted}
+use Rattle.terms.specs.declared.address.Space.{Space}
+use Rattle.terms.specs.declared.address.Space.the-variants.{Data, Status}
+use Rattle.bus.specs.declared.Event.{Event}
+use Rattle.bus.specs.declared.Event.the-variants.{Pulse}
+use Rattle.bus.specs.Slots.{slots, reading, lines}
+use Rattle.crc.specs.Crc.{crc16From, crc16Word}
+use Rattle.memory.specs.Layout.{imageSize}
+use Rattle.memory.specs.Image.{targetByte}
+use Rattle.memory.specs.Write.{programmed}
+use Rattle.rom_laws.specs.Rom.{Ask, searchBits, searchSent}
+use Rattle.memory_function.specs.declared.stage.Incoming.the-variants.{Data as DataByte}
+use Rattle.memory_function.specs.Limits.{limitOf, targetAt}
+use Rattle.memory_function.specs.Stages.{receiving}
+use Rattle.chip.specs.declared.event.Stage.{Stage}
+use Rattle.chip.specs.declared.event.Stage.the-variants.{Memory}
+use Rattle.chip.specs.Event.{silent, inRange}
+use Rattle.chip.specs.Run.{Chip, run, answers}
+
+-- an image of the right length, a state within its ranges, a number of eight bytes
+pub record Ready (n : ℕ) (c : Chip) : Type 0 where
+  pub sized : length (c .image) ≡ imageSize n
+  pub ranged : inRange n (c .state .stage) ≡ true
+  pub eight : length (c .state .number) ≡ 8
+
+-- the same chip at another stage, and with another image
+infixl 25 _at_
+abbrev pub _at_ : Chip → Stage → Chip
+c at stage = record { state = record { stage = stage; number = c .state .number }; image = c .image }
+
+infixl 25 _holding_
+abbrev pub _holding_ : Chip → List ℕ → Chip
+c holding img = record { state = c .state; image = img }
+
+-- the events draw these replies, none of them refused, and take the chip c to the chip d
+pub record Goes (n : ℕ) (c : Chip) (es : List Event) (replies : List Bool) (d : Chip) : Type 0 where
+  pub told : answers n c es ≡ map accepted replies
+  pub there : run n c es ≡ d
+
+-- ---- the ROM commands that succeed: the master's bits after the reset, and the line
+
+pub data Selection (number : List ℕ) : List Bool → List Bool → Type 0 where
+  skip : Selection number (bitsOf 8 0xCC) (bitsOf 8 0xCC)
+  read : (ms : List Bool) → length ms ≡ 64 → Selection number (bitsOf 8 0x33 ++ ms) (bitsOf 8 0x33 ++ lines ms (bitsOfBytes number))
+  matched : Selection number (bitsOf 8 0x55 ++ bitsOfBytes number) (bitsOf 8 0x55 ++ bitsOfBytes number)
+  searched : (asks : List Ask) → length asks ≡ 64
+      → Selection number (bitsOf 8 0xF0 ++ searchBits number 0 asks) (bitsOf 8 0xF0 ++ lines (searchBits number 0 asks) (searchSent number 0 64))
+
+-- ---- what a read draws
+
+-- the first k of these bits, followed by ones for ever
+unfoldable pub thenOnes : List Bool → ℕ → List Bool
+thenOnes bits zero = []
+thenOnes [] (suc k) = true ∷ thenOnes [] k
+thenOnes (b ∷ bits) (suc k) = b ∷ thenOnes bits k
+
+-- ---- a write
+
+-- the command byte of each memory
+abbrev pub writeCommand : Space → ℕ
+writeCommand Data = 0x0F
+writeCommand Status = 0x55
+
+-- for each byte: its eight bits, sixteen read slots for the CRC, the pulse, and eight read slots for the target
+unfoldable pub writeEvents : List ℕ → List Event
+writeEvents [] = []
+writeEvents (byte ∷ bytes) = (slots (bitsOf 8 byte) ++ (reading 16 ++ (Pulse ∷ reading 8))) ++ writeEvents bytes
+
+-- What they draw, from address a of a memory on, where the CRC register holds so much before the first byte: the byte, the CRC of the
+-- register and the byte, 1, and the target as it then is. For the next byte the register is loaded with the raised address.
+unfoldable pub writeLines : ℕ → List ℕ → Space → ℕ → ℕ → List ℕ → List Bool
+writeLines n img space a register [] = []
+writeLines n img space a register (byte ∷ bytes) =
+    let after = programmed n img (targetAt space a) byte in
+    (bitsOf 8 byte ++ (bitsOf 16 (crc16Word (crc16From register (byte ∷ []))) ++ (true ∷ bitsOf 8 (targetByte n after (targetAt space a)))))
+    ++ writeLines n after space (a + 1) (a + 1) bytes
+
+-- where the chip stands before the byte at address a, which is not the first; past the last address it is silent
+unfoldable pub beforeByte : ℕ → Space → ℕ → Stage
+beforeByte n space a = cond (ltb a (limitOf n space)) (Memory (receiving (DataByte (targetAt space a)) a)) silent

@@ -1,0 +1,99 @@
+-- The memory functions: what follows a whole byte that came in, bits that went out, a slot and a pulse. n is the page count.
+use Prim.Native.Nat.{ℕ, _+_, _-_, _*_, _/_}
+use mathlib.Core.Bool.{Bool, true, cond}
+use mathlib.Core.List.{List}
+use lib.Dec.{eqb, ltb}
+use Rattle.terms.specs.Bits.{odd, shiftIn}
+use Rattle.terms.specs.declared.address.Space.the-variants.{Data, Status}
+use Rattle.crc.specs.Crc.{crc16Byte}
+use Rattle.memory.specs.Write.{programmed}
+use Rattle.memory_function.specs.declared.stage.Command.{Command}
+use Rattle.memory_function.specs.declared.stage.Command.the-variants.{ReadMemory, ReadStatus, ExtendedRead, Write}
+use Rattle.memory_function.specs.declared.stage.Incoming.{Incoming}
+use Rattle.memory_function.specs.declared.stage.Incoming.the-variants.{Command as CommandByte, AddressLow, AddressHigh, Data as DataByte}
+use Rattle.memory_function.specs.declared.stage.Outgoing.{Outgoing}
+use Rattle.memory_function.specs.declared.stage.Outgoing.the-variants.{MemoryData, MemoryCrc, StatusData, StatusCrc, RedirectionByte, RedirectionCrc, PageData, PageCrc, WriteCrc, ReadBack}
+use Rattle.memory_function.specs.declared.stage.MemoryStage.{MemoryStage}
+use Rattle.memory_function.specs.declared.stage.MemoryStage.the-variants.{Silent, Receive, Send, Armed}
+use Rattle.memory_function.specs.Stages.{receiving, sendingCrc}
+use Rattle.memory_function.specs.Reads.{startMemory, startStatus, startExtended, pageFrom, afterMemory, afterStatus, nextStatus, afterPage, nextPage}
+use Rattle.memory_function.specs.Writes.{startWrite, nextWrite, readingBack}
+
+-- ---- a byte has come in
+
+-- the CRC starts with the command byte, from a cleared register
+unfoldable pub beginning : Command → ℕ → MemoryStage
+beginning c byte = receiving (AddressLow c) (crc16Byte 0 byte)
+
+-- F0h Read Memory, AAh Read Status, A5h Extended Read, 0Fh Write Memory, 55h Write Status; any other byte silences the chip
+unfoldable pub memoryCommand : ℕ → MemoryStage
+memoryCommand byte =
+    cond (eqb byte 0xF0) (beginning ReadMemory 0xF0)
+    (cond (eqb byte 0xAA) (beginning ReadStatus 0xAA)
+    (cond (eqb byte 0xA5) (beginning ExtendedRead 0xA5)
+    (cond (eqb byte 0x0F) (beginning (Write Data) 0x0F)
+    (cond (eqb byte 0x55) (beginning (Write Status) 0x55)
+    Silent))))
+
+unfoldable pub addressed : ℕ → Command → ℕ → ℕ → List ℕ → MemoryStage
+addressed n ReadMemory a crc img = startMemory n a crc img
+addressed n ReadStatus a crc img = startStatus n a crc img
+addressed n ExtendedRead a crc img = startExtended n a crc img
+addressed n (Write space) a crc img = startWrite n space a crc
+
+unfoldable pub received : ℕ → Incoming → ℕ → ℕ → List ℕ → MemoryStage
+received n CommandByte byte crc img = memoryCommand byte
+received n (AddressLow c) byte crc img = receiving (AddressHigh c byte) (crc16Byte crc byte)
+received n (AddressHigh c low) byte crc img = addressed n c (low + 256 * byte) (crc16Byte crc byte) img
+received n (DataByte t) byte crc img = sendingCrc (WriteCrc t byte) (crc16Byte crc byte)
+
+-- after k bits one more, and the register then holds v
+unfoldable pub receiveBit : ℕ → Incoming → ℕ → ℕ → ℕ → List ℕ → MemoryStage
+receiveBit n i k v crc img = cond (ltb k 7) (Receive i (k + 1) v crc) (received n i v crc img)
+
+-- ---- all bits of something have gone out
+
+unfoldable pub sent : ℕ → Outgoing → ℕ → List ℕ → MemoryStage
+sent n (MemoryData a) crc img = afterMemory n a crc img
+sent n MemoryCrc crc img = Silent
+sent n (StatusData a) crc img = afterStatus n a crc img
+sent n (StatusCrc a) crc img = nextStatus n a img
+sent n (RedirectionByte a) crc img = sendingCrc (RedirectionCrc a) crc
+sent n (RedirectionCrc a) crc img = pageFrom n a 0 img
+sent n (PageData a) crc img = afterPage n a crc img
+sent n (PageCrc a) crc img = nextPage n a img
+sent n (WriteCrc t byte) crc img = Armed t byte
+sent n (ReadBack t) crc img = nextWrite n t
+
+unfoldable pub sendBit : ℕ → Outgoing → ℕ → ℕ → ℕ → List ℕ → MemoryStage
+sendBit n o left v crc img = cond (ltb 1 left) (Send o (left - 1) (v / 2) crc) (sent n o crc img)
+
+-- ---- a slot; one on an armed chip silences it
+
+unfoldable pub memorySlot : ℕ → MemoryStage → Bool → List ℕ → MemoryStage
+memorySlot n Silent bit img = Silent
+memorySlot n (Receive i k register crc) bit img = receiveBit n i k (shiftIn register bit) crc img
+memorySlot n (Send o left v crc) bit img = sendBit n o left v crc img
+memorySlot n (Armed t byte) bit img = Silent
+
+-- the chip's bit, 1 where it is not sending
+unfoldable pub memoryBit : MemoryStage → Bool
+memoryBit Silent = true
+memoryBit (Receive i k register crc) = true
+memoryBit (Send o left v crc) = odd v
+memoryBit (Armed t byte) = true
+
+-- ---- a pulse; where the chip is not armed it changes nothing
+
+unfoldable pub pulseImage : ℕ → MemoryStage → List ℕ → List ℕ
+pulseImage n Silent img = img
+pulseImage n (Receive i k register crc) img = img
+pulseImage n (Send o left v crc) img = img
+pulseImage n (Armed t byte) img = programmed n img t byte
+
+-- on the image after the pulse
+unfoldable pub pulseStage : ℕ → MemoryStage → List ℕ → MemoryStage
+pulseStage n Silent img = Silent
+pulseStage n (Receive i k register crc) img = Receive i k register crc
+pulseStage n (Send o left v crc) img = Send o left v crc
+pulseStage n (Armed t byte) img = readingBack n t img

@@ -1,0 +1,57 @@
+-- The ranges of the fields of a stage, over the page count n. Registers and the byte of an armed chip may hold anything.
+use Prim.Native.Nat.{ℕ}
+use mathlib.Core.Bool.{Bool, true, false, cond}
+use lib.Dec.{ltb}
+use Rattle.terms.specs.declared.address.Space.the-variants.{Data, Status}
+use Rattle.memory_function.specs.declared.stage.Incoming.{Incoming}
+use Rattle.memory_function.specs.declared.stage.Incoming.the-variants.{Command as CommandByte, AddressLow, AddressHigh, Data as DataByte}
+use Rattle.memory_function.specs.declared.stage.Outgoing.{Outgoing}
+use Rattle.memory_function.specs.declared.stage.Outgoing.the-variants.{MemoryData, MemoryCrc, StatusData, StatusCrc, RedirectionByte, RedirectionCrc, PageData, PageCrc, WriteCrc, ReadBack}
+use Rattle.memory_function.specs.declared.stage.MemoryStage.{MemoryStage}
+use Rattle.memory_function.specs.declared.stage.MemoryStage.the-variants.{Silent, Receive, Send, Armed}
+use Rattle.memory_function.specs.Limits.{isAddress, targetInRange}
+
+unfoldable pub incomingInRange : ℕ → Incoming → Bool
+incomingInRange n CommandByte = true
+incomingInRange n (AddressLow c) = true
+incomingInRange n (AddressHigh c low) = true
+incomingInRange n (DataByte t) = targetInRange n t
+
+unfoldable pub outgoingInRange : ℕ → Outgoing → Bool
+outgoingInRange n (MemoryData a) = isAddress n Data (a .0)
+outgoingInRange n MemoryCrc = true
+outgoingInRange n (StatusData a) = isAddress n Status (a .0)
+outgoingInRange n (StatusCrc a) = isAddress n Status (a .0)
+outgoingInRange n (RedirectionByte a) = isAddress n Data (a .0)
+outgoingInRange n (RedirectionCrc a) = isAddress n Data (a .0)
+outgoingInRange n (PageData a) = isAddress n Data (a .0)
+outgoingInRange n (PageCrc a) = isAddress n Data (a .0)
+outgoingInRange n (WriteCrc t byte) = targetInRange n t
+outgoingInRange n (ReadBack t) = targetInRange n t
+
+-- how many bits it has
+unfoldable pub widthOf : Outgoing → ℕ
+widthOf (MemoryData a) = 8
+widthOf MemoryCrc = 16
+widthOf (StatusData a) = 8
+widthOf (StatusCrc a) = 16
+widthOf (RedirectionByte a) = 8
+widthOf (RedirectionCrc a) = 16
+widthOf (PageData a) = 8
+widthOf (PageCrc a) = 16
+widthOf (WriteCrc t byte) = 16
+widthOf (ReadBack t) = 8
+
+-- 0 to 7 bits are in
+unfoldable pub receiveInRange : ℕ → Incoming → ℕ → Bool
+receiveInRange n i k = cond (ltb k 8) (incomingInRange n i) false
+
+-- 1 to all bits are left
+unfoldable pub sendInRange : ℕ → Outgoing → ℕ → Bool
+sendInRange n o left = cond (ltb left 1) false (cond (ltb (widthOf o) left) false (outgoingInRange n o))
+
+unfoldable pub memoryInRange : ℕ → MemoryStage → Bool
+memoryInRange n Silent = true
+memoryInRange n (Receive i k register crc) = receiveInRange n i k
+memoryInRange n (Send o left v crc) = sendInRange n o left
+memoryInRange n (Armed t byte) = targetInRange n t

@@ -1,0 +1,89 @@
+// Bits that come in.
+ghost use mathlib.Core.Path.{_≡_};
+ghost use Prim.Native.Nat.{_+_, _*_};
+ghost use Rattle.memory.specs.Layout.{pageCount};
+ghost use Rattle.memory_function.specs.Functions.{beginning, memoryCommand, addressed, received, receiveBit};
+use crate::read;
+use crate::stage;
+use crate::stage::Command;
+use crate::stage::Incoming;
+use crate::stage::MemoryStage;
+use crate::stage::Outgoing;
+use crate::write;
+use terms::address::Page;
+use terms::address::Space;
+
+// A command that takes an address; its CRC starts cleared.
+fn begin(c: Command, byte: u8) -> MemoryStage
+    ensures { λ r. ⌜ r ≡ beginning c byte ⌝ }
+{
+    stage::receive(Incoming::AddressLow(c), crc::crc16::byte(0, byte))
+}
+
+// A whole memory command byte is in.
+fn command(byte: u8) -> MemoryStage
+    ensures { λ r. ⌜ r ≡ memoryCommand byte ⌝ }
+{
+    match byte {
+        0xF0 => begin(Command::ReadMemory, 0xF0),
+        0xAA => begin(Command::ReadStatus, 0xAA),
+        0xA5 => begin(Command::ExtendedRead, 0xA5),
+        0x0F => begin(Command::Write(Space::Data), 0x0F),
+        0x55 => begin(Command::Write(Space::Status), 0x55),
+        _ => MemoryStage::Silent,
+    }
+}
+
+// An address from its two bytes.
+fn address(low: u8, high: u8) -> u16
+    ensures { λ r. ⌜ r ≡ low + 256 * high ⌝ }
+{
+    low as u16 + 256 * (high as u16)
+}
+
+// A command and its whole address are in.
+fn address_in(last: Page, c: Command, a: u16, crc: u16, image: &[u8]) -> MemoryStage
+    ensures { λ r. ⌜ r ≡ addressed (pageCount last) c a crc (now (image .entry)) ⌝ }
+{
+    match c {
+        Command::ReadMemory => read::start_memory(last, a, crc, image),
+        Command::ReadStatus => read::start_status(last, a, crc, image),
+        Command::ExtendedRead => read::start_extended(last, a, crc, image),
+        Command::Write(space) => write::start_write(last, space, a, crc),
+    }
+}
+
+// A whole byte is in.
+fn byte_in(last: Page, i: Incoming, byte: u8, crc: u16, image: &[u8]) -> MemoryStage
+    ensures { λ r. ⌜ r ≡ received (pageCount last) i byte crc (now (image .entry)) ⌝ }
+{
+    match i {
+        Incoming::Command => command(byte),
+        Incoming::AddressLow(c) => {
+            stage::receive(Incoming::AddressHigh(c, byte), crc::crc16::byte(crc, byte))
+        }
+        Incoming::AddressHigh(c, low) => {
+            address_in(
+                last,
+                c,
+                address(low, byte),
+                crc::crc16::byte(crc, byte),
+                image,
+            )
+        }
+        Incoming::Data(t) => {
+            stage::send_crc(Outgoing::WriteCrc(t, byte), crc::crc16::byte(crc, byte))
+        }
+    }
+}
+
+// One bit more, after k of them; the register now holds v.
+pub fn bit_in(last: Page, i: Incoming, k: u8, v: u8, crc: u16, image: &[u8]) -> MemoryStage
+    ensures { λ r. ⌜ r ≡ receiveBit (pageCount last) i k v crc (now (image .entry)) ⌝ }
+{
+    if k < 7 {
+        MemoryStage::Receive(i, k + 1, v, crc)
+    } else {
+        byte_in(last, i, v, crc, image)
+    }
+}

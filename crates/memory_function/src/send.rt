@@ -1,0 +1,39 @@
+// Bits that go out.
+ghost use mathlib.Core.Path.{_≡_};
+ghost use Rattle.memory.specs.Layout.{pageCount};
+ghost use Rattle.memory_function.specs.Functions.{sent, sendBit};
+use crate::read;
+use crate::stage;
+use crate::stage::MemoryStage;
+use crate::stage::Outgoing;
+use crate::write;
+use terms::address::Page;
+
+// All bits of something are out.
+fn all_out(last: Page, o: Outgoing, crc: u16, image: &[u8]) -> MemoryStage
+    ensures { λ r. ⌜ r ≡ sent (pageCount last) o crc (now (image .entry)) ⌝ }
+{
+    match o {
+        Outgoing::MemoryData(a) => read::after_memory(last, a, crc, image),
+        Outgoing::MemoryCrc => MemoryStage::Silent,
+        Outgoing::StatusData(a) => read::after_status(last, a, crc, image),
+        Outgoing::StatusCrc(a) => read::next_status(last, a, image),
+        Outgoing::RedirectionByte(a) => stage::send_crc(Outgoing::RedirectionCrc(a), crc),
+        Outgoing::RedirectionCrc(a) => read::page_from(last, a, 0, image),
+        Outgoing::PageData(a) => read::after_page(last, a, crc, image),
+        Outgoing::PageCrc(a) => read::next_page(last, a, image),
+        Outgoing::WriteCrc(t, byte) => MemoryStage::Armed(t, byte),
+        Outgoing::ReadBack(t) => write::next_write(last, t),
+    }
+}
+
+// One bit of v goes out, of which so many were left.
+pub fn bit_out(last: Page, o: Outgoing, left: u8, v: u16, crc: u16, image: &[u8]) -> MemoryStage
+    ensures { λ r. ⌜ r ≡ sendBit (pageCount last) o left v crc (now (image .entry)) ⌝ }
+{
+    if 1 < left {
+        MemoryStage::Send(o, left - 1, v >> 1, crc)
+    } else {
+        all_out(last, o, crc, image)
+    }
+}

@@ -1,0 +1,1 @@
+// Laws over whole sessions of the ROM functions: specs/ states them, proofs/ proves them. There is no code.
