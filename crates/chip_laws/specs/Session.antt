@@ -1,12 +1,12 @@
 -- A session with the chip: the events, what they draw, and where they lead. n is the page count.
-use Prim.Native.Nat.{ℕ, zero, suc, _+_}
+use Prim.Native.Nat.{ℕ, zero, suc, _+_, _<_}
 use mathlib.Core.Path.{_≡_}
 use mathlib.Core.Bool.{Bool, true, false, cond}
 use mathlib.Core.List.{List, [], _∷_, _++_, map}
 use lib.Dec.{ltb}
-use lib.ListN.{length}
+use lib.ListN.{length, getD}
 use Rattle.terms.specs.Bits.{bitsOf, bitsOfBytes}
-use Rattle.terms.specs.Told.{Told, accepted}
+use Rattle.terms.specs.Told.{Told, refused, accepted}
 use Rattle.terms.specs.declared.address.Space.{Space}
 use Rattle.terms.specs.declared.address.Space.the-variants.{Data, Status}
 use Rattle.bus.specs.declared.Event.{Event}
@@ -23,7 +23,7 @@ use Rattle.memory_function.specs.Stages.{receiving}
 use Rattle.chip.specs.declared.event.Stage.{Stage}
 use Rattle.chip.specs.declared.event.Stage.the-variants.{Memory}
 use Rattle.chip.specs.Event.{silent, inRange}
-use Rattle.chip.specs.Run.{Chip, run, answers}
+use Rattle.chip.specs.Run.{Chip, draws, run, answers}
 
 -- an image of the right length, a state within its ranges, a number of eight bytes
 pub record Ready (n : ℕ) (c : Chip) : Type 0 where
@@ -39,6 +39,18 @@ c at stage = record { state = record { stage = stage; number = c .state .number 
 infixl 25 _holding_
 abbrev pub _holding_ : Chip → List ℕ → Chip
 c holding img = record { state = c .state; image = img }
+
+-- the line that an event draws; a refused event draws none, and the line is then 1
+abbrev pub lineOf : Told Bool → Bool
+lineOf (accepted reply) = reply
+lineOf (refused k values) = true
+
+abbrev pub lineAt : ℕ → Chip → Event → Bool
+lineAt n c e = lineOf (draws n c e)
+
+-- numbers that are bytes
+abbrev pub Bytes : List ℕ → Type 0
+Bytes l = (i : ℕ) → getD l i 0 < 256
 
 -- the events draw these replies, none of them refused, and take the chip c to the chip d
 pub record Goes (n : ℕ) (c : Chip) (es : List Event) (replies : List Bool) (d : Chip) : Type 0 where

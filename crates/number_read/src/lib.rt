@@ -1,0 +1,287 @@
+// The number read: a master that reads a chip's registration number. Reset, 33h, 64 read slots, closing reset.
+// The state says which event was last sent, so a call's answer is a function of the state that the reply leads to.
+ghost use mathlib.Core.Path.{_≡_};
+ghost use Rattle.number_read.specs.NumberRead.{turned, stopped, presence, afterCommand, crcAgrees, isFamily, judgedFamily, judged, storedAt, stored, byteIn, bitIn, closed, taken, answerOf, receiveInRange, isStop, isNumber, phaseInRange, inRange, begun, numberTold, numberAnswer, numberState};
+use bus::Event;
+use terms::bits;
+use terms::refusal::Refusal;
+
+// What was last sent, and what its reply is for: nothing yet; the reset; bit i of the command; a read slot of byte k, with so many bits
+// of the byte still out, itself included, and those that are in; the closing reset. Or the end.
+pub enum Phase {
+    Begin,
+    Presence,
+    Command(u8),
+    Receive(u8, u8, u8),
+    Closing,
+    Done,
+    Stopped(Refusal),
+}
+
+pub struct NumberRead {
+    pub phase: Phase,
+    pub bytes: [u8; 8],
+}
+
+// Done: the state's bytes are the number.
+pub enum Answer {
+    Send(Event),
+    Done,
+    Refused(Refusal),
+}
+
+pub struct Stepped {
+    pub answer: Answer,
+    pub state: NumberRead,
+}
+
+fn turn(s: NumberRead, phase: Phase) -> NumberRead
+    ensures { λ r. ⌜ r ≡ turned s phase ⌝ }
+{
+    let bytes = s.bytes;
+    NumberRead { phase, bytes }
+}
+
+fn stop(s: NumberRead, refusal: Refusal) -> NumberRead
+    ensures { λ r. ⌜ r ≡ stopped s refusal ⌝ }
+{
+    turn(s, Phase::Stopped(refusal))
+}
+
+// ---- what a reply does
+
+fn present(s: NumberRead, reply: bool) -> NumberRead
+    ensures { λ r. ⌜ r ≡ presence s reply ⌝ }
+{
+    if reply {
+        stop(s, Refusal::NoPresence)
+    } else {
+        turn(s, Phase::Command(0))
+    }
+}
+
+fn after_command(i: u8) -> Phase
+    ensures { λ r. ⌜ r ≡ afterCommand i ⌝ }
+{
+    if i < 7 {
+        Phase::Command(i + 1)
+    } else {
+        Phase::Receive(0, 8, 0)
+    }
+}
+
+// The last byte is the CRC-8 of the others.
+fn crc_agrees(bytes: [u8; 8]) -> bool
+    ensures { λ r. ⌜ r ≡ crcAgrees bytes ⌝ }
+{
+    bytes[7] == crc::crc8::of(&bytes[..7])
+}
+
+fn is_family(bytes: [u8; 8]) -> bool
+    ensures { λ r. ⌜ r ≡ isFamily bytes ⌝ }
+{
+    bytes[0] == 0x0B
+}
+
+fn judge_family(s: NumberRead) -> NumberRead
+    ensures { λ r. ⌜ r ≡ judgedFamily s ⌝ }
+{
+    let bytes = s.bytes;
+    if is_family(bytes) {
+        turn(s, Phase::Closing)
+    } else {
+        stop(s, Refusal::Family)
+    }
+}
+
+// All 64 bits are in.
+fn judge(s: NumberRead) -> NumberRead
+    ensures { λ r. ⌜ r ≡ judged s ⌝ }
+{
+    let bytes = s.bytes;
+    if crc_agrees(bytes) {
+        judge_family(s)
+    } else {
+        stop(s, Refusal::Crc8)
+    }
+}
+
+fn store(bytes: [u8; 8], k: u8, v: u8) -> [u8; 8]
+    ensures { λ r. ⌜ r ≡ storedAt bytes k v ⌝ }
+{
+    let mut b = bytes;
+    let i = k as usize;
+    if i < 8 {
+        b[i] = v;
+        b
+    } else {
+        b
+    }
+}
+
+fn keep(s: NumberRead, k: u8, v: u8) -> NumberRead
+    ensures { λ r. ⌜ r ≡ stored s k v ⌝ }
+{
+    let phase = s.phase;
+    let old = s.bytes;
+    let bytes = store(old, k, v);
+    NumberRead { phase, bytes }
+}
+
+// Byte k is in.
+fn byte_in(s: NumberRead, k: u8) -> NumberRead
+    ensures { λ r. ⌜ r ≡ byteIn s k ⌝ }
+{
+    if k < 7 {
+        turn(s, Phase::Receive(k + 1, 8, 0))
+    } else {
+        judge(s)
+    }
+}
+
+// One bit of byte k is in, and the register holds v.
+fn bit_in(s: NumberRead, k: u8, left: u8, v: u8) -> NumberRead
+    ensures { λ r. ⌜ r ≡ bitIn s k left v ⌝ }
+{
+    if 1 < left {
+        turn(s, Phase::Receive(k, left - 1, v))
+    } else {
+        byte_in(keep(s, k, v), k)
+    }
+}
+
+fn close(s: NumberRead, reply: bool) -> NumberRead
+    ensures { λ r. ⌜ r ≡ closed s reply ⌝ }
+{
+    if reply {
+        stop(s, Refusal::NoPresence)
+    } else {
+        turn(s, Phase::Done)
+    }
+}
+
+fn take(s: NumberRead, reply: bool) -> NumberRead
+    ensures { λ r. ⌜ r ≡ taken s reply ⌝ }
+{
+    let phase = s.phase;
+    match phase {
+        Phase::Begin => turn(s, Phase::Presence),
+        Phase::Presence => present(s, reply),
+        Phase::Command(i) => turn(s, after_command(i)),
+        Phase::Receive(k, left, v) => bit_in(s, k, left, bits::shift_in(v, reply)),
+        Phase::Closing => close(s, reply),
+        Phase::Done => s,
+        Phase::Stopped(_) => s,
+    }
+}
+
+// ---- what is told on the way into a state
+
+fn answer_for(phase: Phase) -> Answer
+    ensures { λ r. ⌜ r ≡ answerOf phase ⌝ }
+{
+    match phase {
+        Phase::Begin => Answer::Send(Event::Reset),
+        Phase::Presence => Answer::Send(Event::Reset),
+        Phase::Command(i) => Answer::Send(Event::Slot(bits::at(0x33, i))),
+        Phase::Receive(_, _, _) => Answer::Send(Event::Slot(true)),
+        Phase::Closing => Answer::Send(Event::Reset),
+        Phase::Done => Answer::Done,
+        Phase::Stopped(refusal) => Answer::Refused(refusal),
+    }
+}
+
+// ---- ranges
+
+fn receive_in_range(k: u8, left: u8) -> bool
+    ensures { λ r. ⌜ r ≡ receiveInRange k left ⌝ }
+{
+    if left < 1 {
+        return false;
+    }
+    if 8 < left {
+        return false;
+    }
+    k < 8
+}
+
+// A refusal that stops a number read.
+fn is_stop(refusal: Refusal) -> bool
+    ensures { λ r. ⌜ r ≡ isStop refusal ⌝ }
+{
+    match refusal {
+        Refusal::ImageLength => false,
+        Refusal::StateRange => false,
+        Refusal::PageNumber => false,
+        Refusal::Loop => false,
+        Refusal::Outside(_) => false,
+        Refusal::Crc16 => false,
+        Refusal::ReadBack => false,
+        Refusal::NoFreePage => false,
+        Refusal::RedirectionProtected(_) => false,
+        Refusal::BufferLength => false,
+        Refusal::Sheet => false,
+        Refusal::NoPresence => true,
+        Refusal::Crc8 => true,
+        Refusal::Family => true,
+    }
+}
+
+// The bytes are a number that the read accepts.
+fn is_number(bytes: [u8; 8]) -> bool
+    ensures { λ r. ⌜ r ≡ isNumber bytes ⌝ }
+{
+    if crc_agrees(bytes) {
+        is_family(bytes)
+    } else {
+        false
+    }
+}
+
+fn phase_in_range(phase: Phase, bytes: [u8; 8]) -> bool
+    ensures { λ r. ⌜ r ≡ phaseInRange phase bytes ⌝ }
+{
+    match phase {
+        Phase::Begin => true,
+        Phase::Presence => true,
+        Phase::Command(i) => i < 8,
+        Phase::Receive(k, left, _) => receive_in_range(k, left),
+        Phase::Closing => is_number(bytes),
+        Phase::Done => is_number(bytes),
+        Phase::Stopped(refusal) => is_stop(refusal),
+    }
+}
+
+// ---- the calls
+
+// The start gives a state and no event.
+pub fn start() -> NumberRead
+    ensures { λ r. ⌜ r ≡ begun ⌝ }
+{
+    NumberRead {
+        phase: Phase::Begin,
+        bytes: [0u8; 8],
+    }
+}
+
+// A later call takes the reply to the last event and gives the next one, or an end, which it repeats when asked again.
+// Refused: 2, with the same state; 13, 14, 15, with the stopped state.
+pub fn call(state: NumberRead, reply: bool) -> Stepped
+    ensures answer { λ r. ⌜ numberTold r ≡ numberAnswer state reply ⌝ }
+    ensures state { λ r. ⌜ r .state ≡ numberState state reply ⌝ }
+{
+    let phase = state.phase;
+    let bytes = state.bytes;
+    if !phase_in_range(phase, bytes) {
+        return Stepped {
+            answer: Answer::Refused(Refusal::StateRange),
+            state,
+        };
+    }
+    let after = take(state, reply);
+    let now = after.phase;
+    Stepped {
+        answer: answer_for(now),
+        state: after,
+    }
+}

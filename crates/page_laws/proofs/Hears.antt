@@ -1,0 +1,159 @@
+-- What a chip draws over a page read's events: the replies of a visit and of a page, with the bytes of its image.
+use Prim.Native.Nat.{ℕ, zero, suc, _+_, _-_, _*_, _/_, _%_, _<_, _≤_}
+use mathlib.Core.Path.{_≡_, refl, sym, ap, ap₂, _∙_, subst}
+use mathlib.Core.Bool.{Bool, true, false}
+use mathlib.Core.List.{List, [], _∷_, _++_, map, append-assoc}
+use native.Mathlib.Numerals.{add-one}
+use native.Mathlib.Omega.{arith}
+use lib.Dec.{lit<}
+use lib.ListN.{length, getD, take, drop, length-append, length-replicate}
+use lib.Seq.{drop-cons}
+use borrow.Author.Tests.{lt-ltb}
+use Rattle.terms.specs.Told.{accepted}
+use Rattle.terms.specs.Bits.{bitsOf, bitsOfBytes}
+use Rattle.bus.specs.declared.Event.{Event}
+use Rattle.bus.specs.declared.Event.the-variants.{Reset}
+use Rattle.bus.specs.Slots.{slots, ones, lines}
+use Rattle.crc.specs.Crc.{crc16Of}
+use Rattle.memory.specs.Layout.{imageSize, dataSize}
+use Rattle.memory.specs.Image.{dataByte, redirectionOf, pageBytes}
+use Rattle.memory.proofs.Pages.{page-length}
+use Rattle.memory_function.specs.declared.stage.Command.the-variants.{ExtendedRead}
+use Rattle.memory_function.specs.declared.stage.MemoryStage.{MemoryStage}
+use Rattle.memory_function.specs.declared.stage.MemoryStage.the-variants.{Silent}
+use Rattle.memory_function.specs.Reads.{startExtended}
+use Rattle.memory_function.specs.Functions.{memoryCommand, addressed}
+use Rattle.function_laws.specs.Streams.{bytesFrom, header, extendedPages, extendedStream}
+use Rattle.function_laws.specs.Reads.{Sends, none, next}
+use Rattle.function_laws.proofs.Sessions.{read-laws}
+use Rattle.chip.specs.declared.event.Stage.the-variants.{Memory}
+use Rattle.chip.specs.Event.{awaitingRom}
+use Rattle.chip.specs.Run.{Chip, draws, run, answers}
+use Rattle.chip.specs.Run as chip
+use Rattle.chip_laws.specs.Session.{Ready, _at_, Goes, skip, lineOf, lineAt}
+use Rattle.chip_laws.proofs.Runs.{_then_}
+use Rattle.chip_laws.proofs.Slots.{lines-read, bits-length, ready, over-memory}
+use Rattle.chip_laws.proofs.Sessions.{reset, up-to-address}
+use Rattle.master.specs.Joint as joint
+use Rattle.master.proofs.Joins as joins
+use Rattle.page_read.specs.PageRead.{addressLow, addressHigh, redirectionCrc, dataCrc}
+use Rattle.page_laws.specs.Heard.{visitEvents, visitReplies, pageEvents, pageReplies}
+use Rattle.page_laws.proofs.Values.{bytes-length}
+
+-- ---- a session, as a bus hears it
+
+module _ (n : ℕ) where
+  lines-are : (es : List Event) (rs : List Bool) (c : Chip) → answers n c es ≡ map accepted rs → joint.lines (chip.next n) (lineAt n) c es ≡ rs
+  unfolding answers
+  lines-are [] [] c e = refl
+  lines-are [] (r ∷ rs) c e = let z : _≡_ {A = ℕ} 0 1 = cc in absurd (omega arith)
+  lines-are (x ∷ es) [] c e = let z : _≡_ {A = ℕ} 0 1 = cc in absurd (omega arith)
+  lines-are (x ∷ es) (r ∷ rs) c e =
+      let a : draws n c x ≡ accepted r = cc in
+      let b : answers n (chip.next n c x) es ≡ map accepted rs = cc in
+      ap₂ (λ (y : Bool) (l : List Bool). y ∷ l) (ap lineOf a) (lines-are es rs (chip.next n c x) b)
+
+  run-is : (es : List Event) (c : Chip) → joint.run (chip.next n) (lineAt n) c es ≡ run n c es
+  unfolding run
+  run-is [] c = refl
+  run-is (e ∷ es) c = run-is es (chip.next n c e)
+
+  pub hears : {c d : Chip} {es : List Event} {rs : List Bool} → Goes n c es rs d → joins.Hears (chip.next n) (lineAt n) c es rs d
+  hears {c} {d} {es} {rs} g = record { path = run-is es c ∙ g .there; replies = lines-are es rs c (g .told) }
+
+-- ---- what is sent, cut in two
+
+record Halves (n : ℕ) (img : List ℕ) (m : MemoryStage) (xs ys : List Bool) (e : MemoryStage) : Type 0 where
+  middle : MemoryStage
+  front : Sends n img m xs middle
+  back : Sends n img middle ys e
+
+halves : (n : ℕ) (img : List ℕ) {m e : MemoryStage} (xs ys : List Bool) → Sends n img m (xs ++ ys) e → Halves n img m xs ys e
+halves n img [] ys p = record { middle = _; front = none; back = p }
+halves n img (x ∷ xs) ys (next hb hs rest) =
+    let h = halves n img xs ys rest in
+    record { middle = h .middle; front = next hb hs (h .front); back = h .back }
+
+module _ (n : ℕ) (img : List ℕ) (sized : length img ≡ imageSize n) where
+  bytes-are : (k a : ℕ) → a + k ≤ dataSize n → bytesFrom (dataByte n img) a k ≡ take k (drop a img)
+  unfolding bytesFrom dataByte
+  bytes-are zero a l = refl
+  bytes-are (suc k) a l =
+      let e : drop a img ≡ getD img a 0 ∷ drop (a + 1) img = drop-cons img a 0 (omega arith) ∙ ap (λ (m : ℕ). getD img a 0 ∷ drop m img) (sym (add-one a)) in
+      simp (lt-ltb a (dataSize n) (omega arith), e) (ap (λ (l : List ℕ). getD img a 0 ∷ l) (bytes-are k (a + 1) (omega arith)))
+
+  -- what Extended Read sends from the first byte of page p on
+  module _ (p : ℕ) (below : p < n) (low : n ≤ 256) where
+    abbrev byte : ℕ
+    byte = redirectionOf n img p
+
+    abbrev visitBits : List Bool
+    visitBits = bitsOf 8 byte ++ bitsOf 16 (redirectionCrc p byte)
+
+    abbrev dataBits : List Bool
+    dataBits = bitsOfBytes (pageBytes img p)
+
+    abbrev crcBits : List Bool
+    crcBits = bitsOf 16 (dataCrc (pageBytes img p))
+
+    abbrev later : List Bool
+    later = extendedPages n img (p + 1) (n - (p + 1))
+
+    stream-is : extendedStream n img (32 * p) ≡ visitBits ++ (dataBits ++ (crcBits ++ later))
+    unfolding redirectionCrc dataCrc addressLow addressHigh pageBytes
+    stream-is =
+        let e : 32 * p / 32 ≡ p = omega arith in
+        let f : 32 - 32 * p % 32 ≡ 32 = omega arith in
+        let g : 32 * p / 256 % 256 ≡ 32 * p / 256 = omega arith in
+        simp (e, f, g, bytes-are 32 (32 * p) (omega arith), append-assoc)
+
+-- ---- the visit of page p, and its bytes
+
+-- what the chip echoes of the command
+abbrev pub echoed : ℕ → List Bool
+echoed p = bitsOfBytes (0xCC ∷ 0xA5 ∷ addressLow p ∷ addressHigh p ∷ [])
+
+pub echoed-length : (p : ℕ) → length (echoed p) ≡ 32
+echoed-length p = bytes-length (0xCC ∷ 0xA5 ∷ addressLow p ∷ addressHigh p ∷ [])
+
+pub record Visit (n : ℕ) (c : Chip) (p : ℕ) : Type 0 where
+  pub after : MemoryStage
+  pub visit : Goes n c (visitEvents p) (visitReplies (echoed p) p (redirectionOf n (c .image) p)) (c at Memory after)
+  pub page : Goes n (c at Memory after) pageEvents (pageReplies (pageBytes (c .image) p)) (c at awaitingRom)
+
+module _ (n : ℕ) (whole : n % 8 ≡ 0) (low : n ≤ 256) where
+  -- read slots meet what is sent
+  read-out : (c : Chip) {m e : MemoryStage} (k : ℕ) {bs : List Bool} → Sends n (c .image) m bs e → length bs ≡ k → Ready n (c at Memory m)
+      → Goes n (c at Memory m) (slots (ones k)) bs (c at Memory e)
+  read-out c k {bs} s l ok = rw (lines-read k bs l) at (over-memory n whole c (ones k) s (length-replicate k true ∙ sym l) ok)
+
+  command-in : (c : Chip) (p : ℕ) → p < n → Ready n c
+      → Goes n c (Reset ∷ slots (echoed p)) (false ∷ echoed p) (c at Memory (startExtended n (32 * p) (crc16Of (header 0xA5 (32 * p))) (c .image)))
+  unfolding bitsOfBytes addressLow addressHigh
+  command-in c p below ok =
+      let g : 32 * p / 256 % 256 ≡ 32 * p / 256 = omega arith in
+      rw g (unfold memoryCommand addressed in up-to-address n whole c ExtendedRead 0xA5 (32 * p) ok skip (lit< tt) refl (omega arith))
+
+  pub visits : (c : Chip) (p : ℕ) → p < n → Ready n c → Visit n c p
+  visits c p below ok =
+      let img = c .image in
+      let stream = subst (λ (l : List Bool). Sends n img (startExtended n (32 * p) (crc16Of (header 0xA5 (32 * p))) img) l Silent)
+      (stream-is n img (ok .sized) p below low) (read-laws n whole low .extended img (32 * p) (omega arith)) in
+      let a = halves n img (visitBits n img (ok .sized) p below low) _ stream in
+      let b = halves n img (dataBits n img (ok .sized) p below low) _ (a .back) in
+      let d = halves n img (crcBits n img (ok .sized) p below low) _ (b .back) in
+      let command = command-in c p below ok in
+      let r : ℕ = redirectionOf n img p in
+      let wide : length (bitsOf 8 r ++ bitsOf 16 (redirectionCrc p r)) ≡ 24 =
+      omega (arith, length-append (bitsOf 8 r) (bitsOf 16 (redirectionCrc p r)), bits-length 8 r, bits-length 16 (redirectionCrc p r)) in
+      let visit = command then read-out c 24 (a .front) wide (ready n whole ok command) in
+      let ok₁ = ready n whole ok visit in
+      let size : length (bitsOfBytes (pageBytes img p)) ≡ 256 = omega (arith, bytes-length (pageBytes img p), page-length n img p (ok .sized) below) in
+      let bytes = read-out c 256 (b .front) size ok₁ in
+      let ok₂ = ready n whole ok₁ bytes in
+      let crc = read-out c 16 (d .front) (bits-length 16 (dataCrc (pageBytes img p))) ok₂ in
+      record {
+        after = a .middle;
+        visit = visit;
+        page = bytes then crc then reset n whole (c at Memory (d .middle)) (ready n whole ok₂ crc);
+      }

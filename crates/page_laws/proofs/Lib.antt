@@ -1,0 +1,12 @@
+pub mod Agrees
+pub mod Course
+pub mod Cuts
+pub mod Demand
+pub mod Ds2505
+pub mod Hears
+pub mod Joined
+pub mod Parse
+pub mod Ranges
+pub mod Reading
+pub mod Steps
+pub mod Values

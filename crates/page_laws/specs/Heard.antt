@@ -1,0 +1,65 @@
+-- The replies with which a page read ends in a verdict, and the events that it then sends, over the page count n.
+use Prim.Native.Nat.{ℕ, _+_, _<_, _≤_}
+use mathlib.Core.Bool.{Bool, false}
+use mathlib.Core.Path.{_≡_}
+use mathlib.Core.List.{List, [], _∷_, _++_}
+use lib.ListN.{length}
+use Rattle.terms.specs.Bits.{bitsOf, bitsOfBytes}
+use Rattle.terms.specs.declared.verdict.Verdict.{Verdict}
+use Rattle.terms.specs.declared.verdict.Verdict.the-variants.{Loop, Outside}
+use Rattle.bus.specs.declared.Event.{Event}
+use Rattle.bus.specs.declared.Event.the-variants.{Reset}
+use Rattle.bus.specs.Slots.{sending, reading}
+use Rattle.chain.specs.Walk.{namedBy, final}
+use Rattle.page_read.specs.PageRead.{addressLow, addressHigh, redirectionCrc, dataCrc}
+use Rattle.chip_laws.specs.Session.{Bytes}
+
+-- The visit of page p, 57 events: reset, Skip, Extended Read, the address 32p, eight read slots for the redirection byte and sixteen
+-- for its CRC.
+abbrev pub visitEvents : ℕ → List Event
+visitEvents p = Reset ∷ (sending (0xCC ∷ 0xA5 ∷ addressLow p ∷ addressHigh p ∷ []) ++ (reading 8 ++ reading 16))
+
+-- Its replies: presence, anything while the command goes out, the redirection byte b, and a CRC that agrees with command, address and b.
+abbrev pub visitReplies : List Bool → ℕ → ℕ → List Bool
+visitReplies ignored p b = false ∷ (ignored ++ (bitsOf 8 b ++ bitsOf 16 (redirectionCrc p b)))
+
+-- the data, their CRC and the closing reset: 272 events and one
+abbrev pub pageEvents : List Event
+pageEvents = reading 256 ++ (reading 16 ++ (Reset ∷ []))
+
+-- their replies: the bytes, a CRC that agrees with them alone, presence
+abbrev pub pageReplies : List ℕ → List Bool
+pageReplies bytes = bitsOfBytes bytes ++ (bitsOf 16 (dataCrc bytes) ++ (false ∷ []))
+
+-- a redirection byte that is not FFh
+pub record Redirects (b : ℕ) : Type 0 where
+  pub small : b < 256
+  pub other : b ≡ 255 → ⊥
+
+-- From page p after so many hops, with these replies the reader sends these events and then tells the verdict. The last list is the
+-- page that it hands over, under Final.
+pub data Heard (n : ℕ) : ℕ → ℕ → List Bool → List Event → Verdict → List ℕ → Type 0 where
+  at-final : {p hops : ℕ} (ignored : List Bool) (bytes : List ℕ) → length ignored ≡ 32 → length bytes ≡ 32 → Bytes bytes
+      → Heard n p hops (visitReplies ignored p 255 ++ pageReplies bytes) (visitEvents p ++ pageEvents) (final p hops) bytes
+  at-outside : {p hops : ℕ} (ignored : List Bool) (b : ℕ) → length ignored ≡ 32 → Redirects b → n ≤ namedBy b
+      → Heard n p hops (visitReplies ignored p b) (visitEvents p) (Outside (namedBy b)) []
+  at-loop : {p hops : ℕ} (ignored : List Bool) (b : ℕ) → length ignored ≡ 32 → Redirects b → namedBy b < n → n ≤ hops + 1
+      → Heard n p hops (visitReplies ignored p b) (visitEvents p) Loop []
+  at-next : {p hops : ℕ} {replies : List Bool} {events : List Event} {v : Verdict} {bytes : List ℕ} (ignored : List Bool) (b : ℕ)
+      → length ignored ≡ 32 → Redirects b → namedBy b < n → hops + 1 < n → Heard n (namedBy b) (hops + 1) replies events v bytes
+      → Heard n p hops (visitReplies ignored p b ++ replies) (visitEvents p ++ events) v bytes
+
+-- a list begins with another
+pub record Begins {A : Type 0} (whole part : List A) : Type 0 where
+  pub rest : List A
+  pub is : whole ≡ part ++ rest
+
+-- The events of a run, ended or not, that the replies so far determine: the first of a visit; or a whole visit whose redirection byte was
+-- FFh, and the first of the page's events; or a whole visit whose redirection byte named a page of the chip, and the events from there on.
+pub data Sent (n : ℕ) : ℕ → ℕ → List Bool → List Event → Type 0 where
+  visiting : {p hops : ℕ} {replies : List Bool} {events : List Event} → Begins (visitEvents p) events → Sent n p hops replies events
+  reading-page : {p hops : ℕ} {events : List Event} (ignored replies : List Bool) → length ignored ≡ 32 → Begins pageEvents events
+      → Sent n p hops (visitReplies ignored p 255 ++ replies) (visitEvents p ++ events)
+  onward : {p hops : ℕ} {replies : List Bool} {events : List Event} (ignored : List Bool) (b : ℕ) → length ignored ≡ 32
+      → Redirects b → namedBy b < n → hops + 1 < n → Sent n (namedBy b) (hops + 1) replies events
+      → Sent n p hops (visitReplies ignored p b ++ replies) (visitEvents p ++ events)

@@ -1,0 +1,4 @@
+pub mod Images
+pub mod Readings
+pub mod Relink
+pub mod Stores
