@@ -43,22 +43,22 @@ use Rattle.chip_laws.proofs.Sessions.{up-to-address}
 module _ (n : ℕ) (whole : n % 8 ≡ 0) where
   -- ---- one byte
 
-  abbrev after : Chip → Target → ℕ → List ℕ
+  abbrev pub after : Chip → Target → ℕ → List ℕ
   after c t byte = programmed n (c .image) t byte
 
-  crc-read : (c : Chip) (t : Target) (byte crc : ℕ) → Ready n (c at Memory (received n (DataByte t) byte crc (c .image)))
+  pub crc-read : (c : Chip) (t : Target) (byte crc : ℕ) → Ready n (c at Memory (received n (DataByte t) byte crc (c .image)))
       → Goes n (c at Memory (received n (DataByte t) byte crc (c .image))) (reading 16) (bitsOf 16 (crc16Word (crc16Byte crc byte))) (c at Memory (Armed t byte))
   unfolding received sent
   crc-read c t byte crc ok =
       rw (lines-read 16 (bitsOf 16 (crc16Word (crc16Byte crc byte))) (bits-length 16 (crc16Word (crc16Byte crc byte)))) at
       (over-memory n whole c (ones 16) (crc-out n (c .image) (WriteCrc t byte) (crc16Byte crc byte)) (sym (bits-length 16 (crc16Word (crc16Byte crc byte)))) ok)
 
-  fires : (c : Chip) (t : Target) (byte : ℕ) → Ready n (c at Memory (Armed t byte))
+  pub fires : (c : Chip) (t : Target) (byte : ℕ) → Ready n (c at Memory (Armed t byte))
       → Goes n (c at Memory (Armed t byte)) (Pulse ∷ []) (true ∷ []) ((c at Memory (readingBack n t (after c t byte))) holding after c t byte)
   unfolding replyOf imageAfter stageAfter pulseImageOf pulseImage stagePulse pulseStage
   fires c t byte ok = event n (c at Memory (Armed t byte)) ok Pulse
 
-  back-read : (c : Chip) (t : Target) → Ready n (c at Memory (readingBack n t (c .image)))
+  pub back-read : (c : Chip) (t : Target) → Ready n (c at Memory (readingBack n t (c .image)))
       → Goes n (c at Memory (readingBack n t (c .image))) (reading 8) (bitsOf 8 (targetByte n (c .image) t)) (c at Memory (nextWrite n t))
   unfolding readingBack sent
   back-read c t ok =
@@ -109,12 +109,12 @@ module _ (n : ℕ) (whole : n % 8 ≡ 0) where
       let last : a + 1 + suc (length bytes) ≡ a + suc (suc (length bytes)) = omega arith in
       first then rw last at rest
 
-  limit-low : n ≤ 256 → (space : Space) → limitOf n space ≤ 65536
+  pub limit-low : n ≤ 256 → (space : Space) → limitOf n space ≤ 65536
   unfolding limitOf
   limit-low low Data = omega arith
   limit-low low Status = omega arith
 
-  is-write : (space : Space) (a : ℕ) (c : Chip) {ms ls : List Bool} → Ready n c → Selection (c .state .number) ms ls → a < 65536 → a < limitOf n space
+  pub is-write : (space : Space) (a : ℕ) (c : Chip) {ms ls : List Bool} → Ready n c → Selection (c .state .number) ms ls → a < 65536 → a < limitOf n space
       → Goes n c (Reset ∷ slots (ms ++ bitsOfBytes (header (writeCommand space) a))) (false ∷ (ls ++ bitsOfBytes (header (writeCommand space) a)))
       (c at Memory (receiving (DataByte (targetAt space a)) (crc16Of (header (writeCommand space) a))))
   unfolding memoryCommand addressed startWrite isAddress

@@ -93,3 +93,7 @@ planBy select l t used new =
 
 unfoldable pub planOf : ℕ → ℕ → ℕ → List ℕ → List Step
 planOf l t used new = planBy skipSteps l t used new
+
+-- how many events a plan has
+abbrev pub total : ℕ
+total = 1222

@@ -1,0 +1,86 @@
+-- What it means that the start accepted: its tests one by one, and that the page asked for is not the free page.
+use Prim.Native.Nat.{ℕ, zero, suc, _<_, _≤_}
+use mathlib.Core.Path.{_≡_, refl, sym, ap, _∙_}
+use mathlib.Core.Bool.{Bool, true, false, cond}
+use mathlib.Core.List.{List}
+use native.Mathlib.Omega.{arith}
+use lib.Dec.{eqb}
+use lib.ListN.{length}
+use borrow.Author.Tests.{eqb-true}
+use Rattle.terms.specs.declared.address.Page.{Page}
+use Rattle.terms.specs.declared.refusal.Refusal.{Refusal}
+use Rattle.terms.specs.declared.refusal.Refusal.the-variants.{ImageLength, PageNumber, Loop as LoopRefusal, Outside as OutsideRefusal, NoFreePage, RedirectionProtected, BufferLength}
+use Rattle.terms.specs.declared.verdict.Verdict.{Verdict}
+use Rattle.terms.specs.declared.verdict.Verdict.the-variants.{Final, Loop, Outside}
+use Rattle.memory.specs.declared.layout.Field.the-variants.{RedirectionProtection}
+use Rattle.memory.specs.Layout.{imageSize, isImage, isPage}
+use Rattle.memory.specs.Image.{redirectionOf, pageBit}
+use Rattle.memory.proofs.Sizes.{image-length, page-below}
+use Rattle.chain.specs.declared.free.Found.{Found}
+use Rattle.chain.specs.declared.free.Found.the-variants.{At, Nothing}
+use Rattle.chain.specs.Walk.{walkOf}
+use Rattle.chain.specs.Chain.{EndsFinal}
+use Rattle.chain.specs.Free.{Free, lowestFree}
+use Rattle.chain.proofs.Frees.{found-means}
+use Rattle.chain.proofs.Walks.{final-means}
+use Rattle.update_laws.proofs.Images.{Accepted}
+use Rattle.update_laws.proofs.Readings.{accepted}
+use Rattle.publisher.specs.declared.Choice.{Choice}
+use Rattle.publisher.specs.declared.Choice.the-variants.{Refused, Accepted as Chosen}
+use Rattle.publisher.specs.Start.{foundChoice, choiceFree, choiceFinal, choiceWalked, choiceOf}
+
+pub record Means (n : ℕ) (img new : List ℕ) (p : ℕ) (l t : Page) : Type 0 where
+  pub hops : ℕ
+  pub size : length img ≡ imageSize n
+  pub long : length new ≡ 32
+  pub on-chip : p < n
+  pub walk : walkOf n img p ≡ Final l hops
+  pub unprotected : pageBit n RedirectionProtection img (l .0) ≡ true
+  pub found : lowestFree n img (l .0) ≡ At t
+
+module _ (l t : Page) where
+  not-chosen : {A : Type 0} (r : Refusal) → Refused r ≡ Chosen l t → A
+  not-chosen r h = absurd (let z : _≡_ {A = ℕ} 0 1 = cc in omega arith)
+
+  -- a test that refuses where it fails has held
+  passed : (b : Bool) (x : Choice) (r : Refusal) → cond b x (Refused r) ≡ Chosen l t → (b ≡ true) × (x ≡ Chosen l t)
+  passed true x r h = (refl, h)
+  passed false x r h = not-chosen r h
+
+  free-found : (m : Page) (f : Found) → foundChoice m f ≡ Chosen l t → (m ≡ l) × (f ≡ At t)
+  unfolding foundChoice
+  free-found m (At q) h = (cc, cc)
+  free-found m Nothing h = not-chosen NoFreePage h
+
+  pub chosen-means : (n : ℕ) (img new : List ℕ) (p : ℕ) → choiceOf n img new p ≡ Chosen l t → Means n img new p l t
+  unfolding choiceOf choiceWalked choiceFinal choiceFree
+  chosen-means n img new p h =
+      let a = passed (isImage n img) _ ImageLength h in
+      let b = passed (eqb (length new) 32) _ BufferLength (a .1) in
+      let c = passed (isPage n p) _ PageNumber (b .1) in
+      walked (image-length n img (a .0)) (eqb-true (length new) 32 (b .0)) (page-below n p (c .0)) (walkOf n img p) refl (c .1)
+    where
+      walked : length img ≡ imageSize n → length new ≡ 32 → p < n → (v : Verdict) → walkOf n img p ≡ v → choiceWalked n img v ≡ Chosen l t → Means n img new p l t
+      walked a b c (Final m k) w r =
+          let o = passed (pageBit n RedirectionProtection img (m .0)) _ (RedirectionProtected m) r in
+          let f = free-found m (lowestFree n img (m .0)) (o .1) in
+          let found : Means n img new p m t = record { hops = k; size = a; long = b; on-chip = c; walk = w; unprotected = o .0; found = f .1 } in
+          rw (f .0) at found
+      walked a b c Loop w r = not-chosen LoopRefusal r
+      walked a b c (Outside x) w r = not-chosen (OutsideRefusal x) r
+
+module _ (n : ℕ) (img new : List ℕ) (p : ℕ) (l t : Page) (low : n ≤ 256) (m : Means n img new p l t) where
+  pub is-accepted : Accepted n img new (l .0) (t .0)
+  is-accepted = accepted n img new p (l .0) (m .hops) (t .0) (m .size) low (m .long) (m .on-chip) (m .walk) (m .found)
+
+  pub is-free : Free n img (t .0)
+  is-free = found-means n img (l .0) (t .0) (m .found) .free
+
+  -- t ends at itself, and p at l
+  elsewhere : (h : ℕ) → EndsFinal (redirectionOf n img) n p (l .0) h → p ≡ t .0 → ⊥
+  elsewhere zero e z = is-accepted .apart (sym z ∙ e .there)
+  elsewhere (suc h) e z = e .before 0 (omega arith) .redirected (ap (redirectionOf n img) z ∙ is-accepted .target-valid)
+
+  pub not-target : p ≡ t .0 → ⊥
+  unfolding walkOf
+  not-target = elsewhere (m .hops) (final-means (redirectionOf n img) n p (l .0) (m .hops) (m .on-chip) .0 (m .walk))

@@ -1,0 +1,1 @@
+// What the plan of an update does on a chip: specs/ states it, proofs/ proves it. There is no code.

@@ -1,0 +1,143 @@
+-- Demand 3, from what the plan does on the chip and what the calls do with any replies.
+use Prim.Native.Nat.{ℕ, _+_, _-_, _%_, _<_, _≤_}
+use mathlib.Core.Path.{_≡_, refl, sym, ap, ap₂, _∙_, subst}
+use mathlib.Core.Bool.{Bool, true, false, cond}
+use mathlib.Core.List.{List, [], _∷_, _++_, map, append-assoc}
+use native.Mathlib.Omega.{arith}
+use lib.Dec.{ltb, eqb, lit<, lit≤}
+use lib.ListN.{length, getD, take, replicate, length-append, length-replicate}
+use lib.Seq.{take-append-le}
+use borrow.Author.Tests.{lt-ltb, le-ltb, eq-eqb}
+use Rattle.terms.specs.Told.{Told, accepted, refused, refusing}
+use Rattle.terms.specs.Refusal.{numberOf, valuesOf}
+use Rattle.terms.specs.declared.address.Page.{Page}
+use Rattle.terms.specs.declared.refusal.Refusal.{Refusal}
+use Rattle.terms.specs.declared.verdict.Verdict.the-variants.{Final}
+use Rattle.bus.specs.declared.Event.{Event}
+use Rattle.bus.specs.declared.Event.the-variants.{Reset, Pulse, PowerLoss}
+use Rattle.chain.specs.Walk.{final, walkOf}
+use Rattle.memory.specs.Page.{copied}
+use Rattle.memory.proofs.Pages.{copied-same}
+use Rattle.update_laws.specs.Update.{Reading, readOf, moved, movedBy}
+use Rattle.master.specs.Next.{Next, send, tells, eventsOf}
+use Rattle.plan.specs.declared.Step.{Step}
+use Rattle.plan.specs.Plan.{planOf, total}
+use Rattle.publisher.specs.declared.Choice.{Choice}
+use Rattle.publisher.specs.declared.Choice.the-variants.{Refused, Accepted}
+use Rattle.publisher.specs.declared.Stage.the-variants.{Running}
+use Rattle.publisher.specs.declared.Publisher.{Publisher}
+use Rattle.publisher.specs.Start.{choiceOf, choiceTold, choiceState, ready, bitmapByte, startAnswer, startState}
+use Rattle.publisher.specs.Call.{planIn, inRange}
+use Rattle.chip.specs.Run.{Chip, next, run}
+use Rattle.chip_laws.specs.Session.{Ready, Bytes}
+use Rattle.chip_laws.proofs.Runs.{run-append}
+use Rattle.chip_laws.proofs.States.{image-kept}
+use Rattle.plan_laws.specs.Plan.{stepEvents, shown, Fits, Accepts, planFor, PlanLaws}
+use Rattle.plan_laws.proofs.Starts.{chosen-means}
+use Rattle.plan_laws.proofs.Laws.{plan-laws}
+use Rattle.call_laws.specs.Calls.{answersTo, Good, Begins, CallLaws}
+use Rattle.call_laws.proofs.Laws.{call-laws}
+use Rattle.publisher_laws.specs.Demand.{returned, reaching, readAfter, Update, Demand3}
+
+-- a power loss leaves the image
+cut-image : (n : ℕ) (c : Chip) (events : List Event) (m : ℕ) (cut : Bool)
+    → run n c (reaching events m cut) .image ≡ run n c (take m events) .image
+cut-image n c events m false = refl
+cut-image n c events m true =
+    ap (λ (d : Chip). d .image) (run-append n c (take m events) (PowerLoss ∷ []))
+    ∙ unfold run in image-kept n (run n c (take m events)) PowerLoss refl
+
+events-length : (steps : List Step) → length (stepEvents steps) ≡ length steps
+unfolding stepEvents
+events-length [] = refl
+events-length (s ∷ ss) = ap (λ k. Prim.Native.Nat.suc k) (events-length ss)
+
+-- a page that ended at l reads as the new page
+moved-final : (n : ℕ) (img new : List ℕ) (p : ℕ) (l : Page) (t hops : ℕ) → walkOf n img p ≡ Final l hops
+    → moved (l .0) t new (readOf n img p) ≡ record { verdict = final t (hops + 1); bytes = new }
+moved-final n img new p l t hops e =
+    ap (λ v. movedBy (l .0) t new (readOf n img p) v) e ∙ simp (eq-eqb (l .0) (l .0) refl)
+
+module _ (n : ℕ) (whole : n % 8 ≡ 0) (some : 0 < n) (low : n ≤ 256) (c : Chip) (new : List ℕ) (p : ℕ) (replies : List Bool) where
+  module _ (l t : Page) (ok : Accepts n c new p l t) where
+    abbrev state : Publisher
+    state = ready n (c .image) new l t
+
+    laws : PlanLaws n c new p l t
+    laws = plan-laws n c new p l t whole low ok
+
+    same : planIn state ≡ planFor n c new l t
+    unfolding ready
+    same = ap (planOf (l .0) (t .0) (bitmapByte n (c .image) (t .0))) (copied-same new (replicate 32 0) (laws .long))
+
+    within : inRange total n state ≡ true
+    unfolding choiceState
+    within = rw (ok .chosen) at (call-laws n some .starts (c .image) new p)
+
+    running : state .stage ≡ Running 0 true
+    unfolding ready
+    running = refl
+
+    size : length (planIn state) ≡ total
+    size = ap length same ∙ laws .counted
+
+    first-of : Begins (stepEvents (planIn state)) (returned n state replies)
+    first-of = call-laws n some .ordered state replies running within size
+
+    reads : (m : ℕ) (cut : Bool) → m ≤ length (returned n state replies) → (q : ℕ) → q < n → (q ≡ t .0 → ⊥)
+        → readAfter n c (returned n state replies) m cut q
+        ≡ cond (ltb m shown) (readOf n (c .image) q) (moved (l .0) (t .0) new (readOf n (c .image) q))
+    reads m cut le q lt d =
+        let takes : take m (returned n state replies) ≡ take m (stepEvents (planFor n c new l t)) =
+        sym (take-append-le m (returned n state replies) (first-of .rest) le) ∙ ap (take m) (sym (first-of .is) ∙ ap stepEvents same) in
+        ap (λ (img : List ℕ). readOf n img q) (cut-image n c (returned n state replies) m cut ∙ ap (λ (es : List Event). run n c es .image) takes)
+        ∙ laws .reads m q lt d
+
+    below : p < n
+    below = chosen-means l t n (c .image) new p (ok .chosen) .on-chip
+
+    update : Update n c new p state replies
+    unfolding ready
+    update =
+        record {
+          hops = laws .hops;
+          asked = laws .asked;
+          apart = laws .apart;
+          reads = reads;
+          old = λ m cut le lt. reads m cut le p below (laws .apart) ∙ simp (lt-ltb m shown lt);
+          changed = λ m cut le ge.
+              reads m cut le p below (laws .apart) ∙ simp (le-ltb m shown ge) (moved-final n (c .image) new p l (t .0) (laws .hops) (laws .asked));
+          ordered = first-of;
+          counted = events-length (planIn state) ∙ size;
+          shows = ap (λ (ss : List Step). getD (stepEvents ss) (shown - 1) Reset) same ∙ laws .shows;
+          ends = λ good enough. call-laws n some .complete state c replies running within size (subst (Fits n c) (sym same) (laws .fits)) good enough;
+        }
+
+  abbrev choice : Choice
+  choice = choiceOf n (c .image) new p
+
+  accepts : Ready n c → Bytes new → (ch : Choice) → choice ≡ ch → choiceTold ch ≡ accepted []
+      → Update n c new p (choiceState n (c .image) new ch) replies
+  unfolding choiceState
+  accepts ok small (Accepted l t) e a = update l t (record { ready = ok; new-bytes = small; chosen = e })
+  accepts ok small (Refused r) e a = absurd (let y : _≡_ {A = ℕ} 0 1 = cc in omega arith)
+
+  refuses : (k : ℕ) (values : List ℕ) (ch : Choice) → choice ≡ ch → choiceTold ch ≡ refused k values
+      → answersTo n (startState n (c .image) new p) replies ≡ replicate (length replies) (refused k values)
+  refuses k values (Accepted l t) e a = absurd (let y : _≡_ {A = ℕ} 0 1 = cc in omega arith)
+  refuses k values (Refused r) e a =
+      let number : numberOf r ≡ k = cc in
+      let given : valuesOf r ≡ values = cc in
+      call-laws n some .refuses (c .image) new p r replies e
+      ∙ ap₂ (λ (x : ℕ) (v : List ℕ). replicate {A = Told Next} (length replies) (refused x v)) number given
+
+  pub demand-3 : Ready n c → Bytes new → Demand3 n c new p replies
+  demand-3 ok small =
+      record {
+        update = λ a. accepts ok small choice refl a;
+        refusal = λ k values a. refuses k values choice refl a;
+      }
+
+-- at the DS2505's 64 pages
+pub ds2505 : (c : Chip) (new : List ℕ) (p : ℕ) (replies : List Bool) → Ready 64 c → Bytes new → Demand3 64 c new p replies
+ds2505 = demand-3 64 refl (lit< tt) (lit≤ tt)

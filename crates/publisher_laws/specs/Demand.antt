@@ -1,0 +1,69 @@
+-- Demand 3: one claim about a whole run. It speaks of the definitions to which the contracts of the chip's event entry (eventAnswer,
+-- eventState, eventImage, in `next` and `run`), the publisher's start (startAnswer, startState) and its later calls (callAnswer, callState,
+-- in `answersTo`) equate their answers. n is the page count.
+use Prim.Native.Nat.{ℕ, _+_, _-_, _<_, _≤_}
+use mathlib.Core.Path.{_≡_}
+use mathlib.Core.Bool.{Bool, true, false, cond}
+use mathlib.Core.List.{List, [], _∷_, _++_, map}
+use lib.Dec.{ltb}
+use lib.ListN.{length, getD, take, replicate}
+use Rattle.terms.specs.Told.{Told, accepted, refused}
+use Rattle.terms.specs.declared.verdict.Verdict.the-variants.{Final}
+use Rattle.bus.specs.declared.Event.{Event}
+use Rattle.bus.specs.declared.Event.the-variants.{Reset, Pulse, PowerLoss}
+use Rattle.chain.specs.Walk.{final, walkOf}
+use Rattle.update_laws.specs.Update.{Reading, readOf, moved}
+use Rattle.master.specs.Next.{Next, send, tells, eventsOf}
+use Rattle.publisher.specs.declared.Publisher.{Publisher}
+use Rattle.publisher.specs.Start.{startAnswer, startState}
+use Rattle.publisher.specs.Call.{planIn}
+use Rattle.chip.specs.Run.{Chip, run}
+use Rattle.chip_laws.specs.Session.{Ready, Bytes}
+use Rattle.plan.specs.Plan.{total}
+use Rattle.plan_laws.specs.Plan.{stepEvents, shown}
+use Rattle.call_laws.specs.Calls.{answersTo, Good, Begins}
+
+-- the events that the later calls returned
+abbrev pub returned : ℕ → Publisher → List Bool → List Event
+returned n s replies = eventsOf (answersTo n s replies)
+
+-- those that reach the chip: the first m of them and, where there is a cut, one power loss after them
+abbrev pub reaching : List Event → ℕ → Bool → List Event
+reaching events m false = take m events
+reaching events m true = take m events ++ (PowerLoss ∷ [])
+
+-- what page q reads as on the image then left
+abbrev pub readAfter : ℕ → Chip → List Event → ℕ → Bool → ℕ → Reading
+readAfter n c events m cut q = readOf n (run n c (reaching events m cut) .image) q
+
+-- An update of page p that the start accepted, lent the image of the chip c and the bytes new, with the state s; later calls get the
+-- replies. L is s .last and T is s .target.
+pub record Update (n : ℕ) (c : Chip) (new : List ℕ) (p : ℕ) (s : Publisher) (replies : List Bool) : Type 0 where
+  -- p ends at L, and is not T
+  pub hops : ℕ
+  pub asked : walkOf n (c .image) p ≡ Final (s .last) hops
+  pub apart : p ≡ s .target .0 → ⊥
+  -- whatever the replies and wherever the cut: every page but T reads as at the start while fewer events than the visible one have
+  -- reached the chip; from it on each page that ended at L reads Final T, one hop more, and the new bytes, and every other page but T
+  -- as at the start
+  pub reads : (m : ℕ) (cut : Bool) → m ≤ length (returned n s replies) → (q : ℕ) → q < n → (q ≡ s .target .0 → ⊥)
+      → readAfter n c (returned n s replies) m cut q
+      ≡ cond (ltb m shown) (readOf n (c .image) q) (moved (s .last .0) (s .target .0) new (readOf n (c .image) q))
+  -- so the page asked for: wholly old, and then wholly new
+  pub old : (m : ℕ) (cut : Bool) → m ≤ length (returned n s replies) → m < shown → readAfter n c (returned n s replies) m cut p ≡ readOf n (c .image) p
+  pub changed : (m : ℕ) (cut : Bool) → m ≤ length (returned n s replies) → shown ≤ m
+      → readAfter n c (returned n s replies) m cut p ≡ record { verdict = final (s .target .0) (hops + 1); bytes = new }
+  -- the events returned are the first of the plan, which has so many; the visible one is a pulse
+  pub ordered : Begins (stepEvents (planIn s)) (returned n s replies)
+  pub counted : length (stepEvents (planIn s)) ≡ total
+  pub shows : getD (stepEvents (planIn s)) (shown - 1) Reset ≡ Pulse
+  -- with good replies, and more later calls than events in the plan, they return every event of the plan, and then L and T
+  pub ends : Good n c s replies → total < length replies
+      → answersTo n s replies
+      ≡ map (λ (e : Event). accepted (send e)) (stepEvents (planIn s)) ++ replicate (length replies - total) (accepted (tells (s .last .0 ∷ s .target .0 ∷ [])))
+
+pub record Demand3 (n : ℕ) (c : Chip) (new : List ℕ) (p : ℕ) (replies : List Bool) : Type 0 where
+  pub update : startAnswer n (c .image) new p ≡ accepted [] → Update n c new p (startState n (c .image) new p) replies
+  -- after a start that refuses, every later call repeats the refusal, and no event is returned
+  pub refusal : (k : ℕ) (values : List ℕ) → startAnswer n (c .image) new p ≡ refused k values
+      → answersTo n (startState n (c .image) new p) replies ≡ replicate (length replies) (refused k values)

@@ -1,0 +1,89 @@
+-- A whole update on an image: the publisher joined to a chip, and what the image then reads as. n is the page count.
+use Prim.Native.Nat.{ℕ, zero, suc, _<_}
+use mathlib.Core.Path.{_≡_}
+use mathlib.Core.Bool.{Bool, true, cond}
+use mathlib.Core.List.{List, [], _∷_}
+use lib.Dec.{ltb}
+use Rattle.terms.specs.Told.{Told, accepted, refusing}
+use Rattle.terms.specs.declared.address.Page.{Page}
+use Rattle.bus.specs.declared.Event.{Event}
+use Rattle.master.specs.Next.{Next}
+use Rattle.update_laws.specs.Update.{readOf, moved}
+use Rattle.publisher.specs.declared.Choice.{Choice}
+use Rattle.publisher.specs.declared.Choice.the-variants.{Refused, Accepted}
+use Rattle.publisher.specs.declared.Publisher.{Publisher}
+use Rattle.publisher.specs.Start.{choiceOf, startState, ready}
+use Rattle.chip.specs.Event.{powerUp}
+use Rattle.chip.specs.Run.{Chip, next}
+use Rattle.chip_laws.specs.Session.{lineAt}
+use Rattle.plan_laws.specs.Plan.{shown}
+use Rattle.call_laws.specs.Calls.{called, told, chipAfter, lastDrawn}
+use Rattle.update.specs.declared.Joined.{Joined}
+use Rattle.update.specs.declared.Updated.{Updated}
+use Rattle.update.specs.declared.Updated.the-variants.{Refused as UpdateRefused, Ran}
+
+-- the chip of a joined pair, with its memory
+abbrev pub chipOf : Joined → List ℕ → Chip
+chipOf j img = record { state = j .chip; image = img }
+
+-- an event reaches the chip
+unfoldable pub reached : ℕ → Joined → Event → List ℕ → Joined
+reached n j e img = record { publisher = j .publisher; chip = next n (chipOf j img) e .state; reply = lineAt n (chipOf j img) e }
+
+unfoldable pub reachedImage : ℕ → Joined → Event → List ℕ → List ℕ
+reachedImage n j e img = next n (chipOf j img) e .image
+
+-- what a call told is handed on
+unfoldable pub handedOn : ℕ → Joined → Told Next → List ℕ → Joined
+handedOn n j answer img =
+    record { publisher = j .publisher; chip = chipAfter n (chipOf j img) answer .state; reply = lastDrawn n (chipOf j img) (j .reply) answer }
+
+unfoldable pub handedImage : ℕ → Joined → Told Next → List ℕ → List ℕ
+handedImage n j answer img = chipAfter n (chipOf j img) answer .image
+
+-- one later call, with the reply that the last event drew
+abbrev pub calling : ℕ → Joined → Joined
+calling n j = record { publisher = called n (j .publisher) (j .reply); chip = j .chip; reply = j .reply }
+
+unfoldable pub turned : ℕ → Joined → List ℕ → Joined
+turned n j img = handedOn n (calling n j) (told n (j .publisher) (j .reply)) img
+
+unfoldable pub turnedImage : ℕ → Joined → List ℕ → List ℕ
+turnedImage n j img = handedImage n (calling n j) (told n (j .publisher) (j .reply)) img
+
+-- the image after so many later calls
+unfoldable pub runFor : ℕ → ℕ → Joined → List ℕ → List ℕ
+runFor n zero j img = img
+runFor n (suc k) j img = runFor n k (turned n j img) (turnedImage n j img)
+
+-- before the first call: the start's state, and a chip at power-up; the first reply is not looked at
+abbrev pub opened : Publisher → List ℕ → Joined
+opened s number = record { publisher = s; chip = powerUp number; reply = true }
+
+-- ---- the whole update
+
+abbrev pub updateTold : Updated → Told (List ℕ)
+updateTold (UpdateRefused r) = refusing r
+updateTold (Ran l t) = accepted (l .0 ∷ t .0 ∷ [])
+
+abbrev pub choiceAnswer : Choice → Told (List ℕ)
+choiceAnswer (Refused r) = refusing r
+choiceAnswer (Accepted l t) = accepted (l .0 ∷ t .0 ∷ [])
+
+-- 1, 10, 3, 4, 5, 9, 8, or L and T
+abbrev pub updateAnswer : ℕ → List ℕ → List ℕ → ℕ → Told (List ℕ)
+updateAnswer n img new p = choiceAnswer (choiceOf n img new p)
+
+abbrev pub choiceImage : ℕ → List ℕ → List ℕ → List ℕ → ℕ → Choice → List ℕ
+choiceImage n number img new events (Refused r) = img
+choiceImage n number img new events (Accepted l t) = runFor n events (opened (ready n img new l t) number) img
+
+abbrev pub updatedImage : ℕ → List ℕ → List ℕ → List ℕ → ℕ → ℕ → List ℕ
+updatedImage n number img new p events = choiceImage n number img new events (choiceOf n img new p)
+
+-- What the image then reads as: after a refusal it is the image as it was; else every page but T reads as at the start while fewer events
+-- than the visible one have been let through, and from it on as demand 3 says.
+pub record ReadsAs (n : ℕ) (img new : List ℕ) (p events : ℕ) (after : List ℕ) : Type 0 where
+  pub refused : (k : ℕ) (values : List ℕ) → updateAnswer n img new p ≡ Rattle.terms.specs.Told.refused k values → after ≡ img
+  pub reads : (l t : Page) → choiceOf n img new p ≡ Accepted l t → (q : ℕ) → q < n → (q ≡ t .0 → ⊥)
+      → readOf n after q ≡ cond (ltb events shown) (readOf n img q) (moved (l .0) (t .0) new (readOf n img q))
