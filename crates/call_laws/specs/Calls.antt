@@ -1,7 +1,7 @@
 -- The publisher's later calls one after the other, over a plan with so many events and the page count n.
 use Prim.Native.Nat.{ℕ, _-_, _<_}
 use mathlib.Core.Path.{_≡_}
-use mathlib.Core.Bool.{Bool, true, false}
+use mathlib.Core.Bool.{Bool, true}
 use mathlib.Core.List.{List, [], _∷_, _++_, map}
 use lib.ListN.{length, replicate}
 use Rattle.terms.specs.Told.{Told, refused, accepted, refusing}
@@ -9,9 +9,8 @@ use Rattle.terms.specs.declared.refusal.Refusal.{Refusal}
 use Rattle.bus.specs.declared.Event.{Event}
 use Rattle.master.specs.Next.{Next, send, tells, eventsOf}
 use Rattle.master.specs.Joint as joint
-use Rattle.plan.specs.declared.Step.{Step}
-use Rattle.publisher.specs.declared.Choice.the-variants.{Refused, Accepted}
-use Rattle.publisher.specs.declared.Stage.the-variants.{Running, Stopped}
+use Rattle.publisher.specs.declared.Choice.the-variants.{Refused}
+use Rattle.publisher.specs.declared.Stage.the-variants.{Running}
 use Rattle.publisher.specs.declared.Publisher.{Publisher}
 use Rattle.publisher.specs.Start.{choiceOf, startState}
 use Rattle.publisher.specs.Call.{planIn, inRange, callAnswer, callState}

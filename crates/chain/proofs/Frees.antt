@@ -1,18 +1,16 @@
 -- What the computed tests for a free page mean.
-use Prim.Native.Nat.{ℕ, zero, suc, _+_, _-_, _<_, _≤_}
-use mathlib.Core.Path.{_≡_, refl, sym, ap, _∙_}
+use Prim.Native.Nat.{ℕ, _-_, _<_, _≤_}
+use mathlib.Core.Path.{_≡_, refl, sym, _∙_}
 use mathlib.Core.Bool.{Bool, true, false, not}
 use mathlib.Core.List.{List}
 use native.Mathlib.Omega.{arith}
-use lib.Dec.{eqb, leb}
-use borrow.Author.Tests.{leb-true, eqb-true, eqb-false, not-true, not-false, eq-eqb, ne-eqb, le-leb}
-use Rattle.memory.specs.declared.layout.Field.the-variants.{DataProtection, UsedPages}
-use Rattle.memory.specs.Image.{redirectionOf, pageBit, pageBytes}
-use Rattle.memory.specs.Page.{isBlank}
+use lib.Dec.{eqb}
+use borrow.Author.Tests.{eqb-true, eqb-false, not-true, eq-eqb, ne-eqb}
+use Rattle.memory.specs.Image.{redirectionOf}
 use Rattle.chain.specs.declared.free.Found.the-variants.{At, Nothing}
 use Rattle.chain.specs.Walk.{namedBy}
 use Rattle.chain.specs.Free.{names, isUnnamed, isFree, isFreeOther, lowestFree, Free, Lowest}
-use Rattle.chain.proofs.Scan.{both-true, every-means, every-intro, First, first-at, first-nothing}
+use Rattle.chain.proofs.Scan.{both-true, every-means, every-intro, first-at, first-nothing}
 
 pub free-means : (n : ℕ) (img : List ℕ) (p : ℕ) → isFree n img p ≡ true → Free n img p
 unfolding isFree isUnnamed

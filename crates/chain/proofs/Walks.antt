@@ -9,7 +9,6 @@ use borrow.Author.Count.{below-more}
 use lib.Dec.{eqb, ltb}
 use borrow.Author.Tests.{eqb-true, eqb-false, ltb-true, ltb-false, eq-eqb, ne-eqb, lt-ltb, le-ltb}
 use Rattle.terms.specs.declared.address.Page.{Page}
-use Rattle.terms.specs.declared.verdict.Verdict.{Verdict}
 use Rattle.terms.specs.declared.verdict.Verdict.the-variants.{Final, Loop, Outside}
 use Rattle.chain.specs.Walk.{namedBy, final, walkFrom, walkBy}
 use Rattle.chain.specs.Chain.{met, Inside, EndsFinal, EndsOutside, Endless}

@@ -1,7 +1,6 @@
 -- Tests over numbers one after the other.
 use Prim.Native.Nat.{ℕ, zero, suc, _+_}
 use mathlib.Core.Bool.{Bool, true, cond, _&&_}
-use Rattle.terms.specs.declared.address.Page.{Page}
 use Rattle.chain.specs.declared.free.Found.{Found}
 use Rattle.chain.specs.declared.free.Found.the-variants.{At, Nothing}
 

@@ -1,3 +1,4 @@
+pub mod Bus
 pub mod Ds2505
 pub mod Runs
 pub mod Sessions

@@ -1,18 +1,16 @@
 -- Runs of events compose; and one event on a chip that is within its ranges and has an image of the right length.
 use Prim.Native.Nat.{ℕ}
 use mathlib.Core.Path.{_≡_, refl, sym, ap, ap₂, _∙_}
-use mathlib.Core.Bool.{Bool, true, _&&_}
+use mathlib.Core.Bool.{Bool}
 use mathlib.Core.List.{List, [], _∷_, _++_, map}
 use lib.ListN.{length}
 use borrow.Author.Tests.{eq-eqb}
-use Rattle.terms.specs.Told.{Told, accepted}
+use Rattle.terms.specs.Told.{accepted}
 use Rattle.bus.specs.declared.Event.{Event}
-use Rattle.bus.specs.declared.Event.the-variants.{Slot}
 use Rattle.memory.specs.Layout.{imageSize, isImage}
-use Rattle.chip.specs.declared.event.Stage.{Stage}
-use Rattle.chip.specs.Event.{inRange, stageBit, stageSlot, replyOf, imageAfter, stageAfter, eventAnswer, eventState, eventImage}
+use Rattle.chip.specs.Event.{replyOf, imageAfter, stageAfter, eventAnswer, eventState, eventImage}
 use Rattle.chip.specs.Run.{Chip, next, draws, run, answers}
-use Rattle.chip_laws.specs.Session.{Ready, _at_, Goes}
+use Rattle.chip_laws.specs.Session.{Ready, Goes}
 
 pub map-append : {A B : Type 0} (f : A → B) (xs ys : List A) → map f (xs ++ ys) ≡ map f xs ++ map f ys
 map-append f [] ys = refl

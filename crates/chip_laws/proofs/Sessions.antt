@@ -1,49 +1,41 @@
 -- ROM commands and the commands that read, over whole sessions.
 use Prim.Native.Nat.{ℕ, zero, suc, _+_, _*_, _/_, _%_, _<_, _≤_}
-use mathlib.Core.Path.{_≡_, refl, sym, ap, ap₂, _∙_, subst}
-use mathlib.Core.Bool.{Bool, true, false, not, cond, _&&_}
-use mathlib.Core.List.{List, [], _∷_, _++_, map, append-nil}
+use mathlib.Core.Path.{_≡_, refl, ap, _∙_}
+use mathlib.Core.Bool.{Bool, false, not}
+use mathlib.Core.List.{List, [], _∷_, _++_, append-nil}
 use native.Mathlib.Omega.{arith}
-use lib.Dec.{eqb, ltb, lit<}
-use lib.ListN.{length, length-append, length-replicate}
-use borrow.Author.Tests.{lt-ltb, le-ltb}
-use Rattle.terms.specs.Told.{accepted}
+use lib.Dec.{eqb, lit<}
+use lib.ListN.{length, length-append}
+use borrow.Author.Tests.{le-ltb}
 use Rattle.terms.specs.Bits.{bitsOf, bitsOfBytes}
 use Rattle.terms.specs.declared.address.Space.{Space}
 use Rattle.terms.specs.declared.address.Space.the-variants.{Data, Status}
-use Rattle.bus.specs.declared.Event.{Event}
 use Rattle.bus.specs.declared.Event.the-variants.{Reset}
-use Rattle.bus.specs.Slots.{slots, ones, lines}
+use Rattle.bus.specs.Slots.{slots, lines}
 use Rattle.crc.specs.Crc.{crcBytes, crc16Byte, crc16Of}
-use Rattle.memory.specs.Layout.{dataSize, statusSize}
-use Rattle.rom_function.specs.declared.RomStep.the-variants.{Read, Match, SearchBit}
 use Rattle.rom_function.specs.declared.RomStage.{RomStage}
-use Rattle.rom_function.specs.declared.RomStage.the-variants.{Command as RomCommand, Number}
 use Rattle.rom_function.specs.declared.RomOutcome.{RomOutcome}
-use Rattle.rom_function.specs.declared.RomOutcome.the-variants.{Selected, Deselected}
 use Rattle.rom_function.specs.Rom.{numberBit, romCommand}
 use Rattle.rom_laws.specs.Rom.{Roms, Ask, numberBits, searchBits, searchSent}
 use Rattle.rom_laws.proofs.Sessions.{rom-laws}
 use Rattle.memory_function.specs.declared.stage.Command.{Command}
 use Rattle.memory_function.specs.declared.stage.Command.the-variants.{ReadMemory, ReadStatus, ExtendedRead, Write}
 use Rattle.memory_function.specs.declared.stage.Incoming.the-variants.{Command as CommandByte, AddressLow, AddressHigh}
-use Rattle.memory_function.specs.declared.stage.MemoryStage.{MemoryStage}
 use Rattle.memory_function.specs.declared.stage.MemoryStage.the-variants.{Silent}
 use Rattle.memory_function.specs.Limits.{limitOf, isAddress}
-use Rattle.memory_function.specs.Stages.{receiving}
 use Rattle.memory_function.specs.Reads.{startMemory, startStatus, startExtended}
 use Rattle.memory_function.specs.Writes.{startWrite}
 use Rattle.memory_function.specs.Functions.{beginning, memoryCommand, addressed, received}
-use Rattle.function_laws.specs.Streams.{header, memoryStream, statusStream, extendedStream}
+use Rattle.function_laws.specs.Streams.{header}
 use Rattle.function_laws.specs.Reads.{Sends}
 use Rattle.function_laws.proofs.Sessions.{read-laws}
 use Rattle.chip.specs.declared.event.Stage.the-variants.{Rom, Memory}
 use Rattle.chip.specs.Event.{silent, awaitingRom, awaitingMemory, leading, replyOf, imageAfter, stageAfter}
-use Rattle.chip.specs.Run.{Chip, answers}
+use Rattle.chip.specs.Run.{Chip}
 use Rattle.chip_laws.specs.Session.{Ready, _at_, Goes, Selection, skip, read, matched, searched, thenOnes, writeCommand}
 use Rattle.chip_laws.specs.Laws.{RomLaws, Draws, ReadLaws, SilenceLaws}
 use Rattle.chip_laws.proofs.Runs.{_then_, further, event}
-use Rattle.chip_laws.proofs.Slots.{slots-append, lines-ones, bits-length, ready, over-rom, over-memory, draws-stream, byte-in}
+use Rattle.chip_laws.proofs.Slots.{slots-append, lines-ones, bits-length, ready, over-rom, draws-stream, byte-in}
 
 module _ (n : ℕ) (whole : n % 8 ≡ 0) where
   pub reset : (c : Chip) → Ready n c → Goes n c (Reset ∷ []) (false ∷ []) (c at awaitingRom)

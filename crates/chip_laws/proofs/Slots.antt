@@ -1,23 +1,20 @@
 -- Slots one after the other: through a ROM function, while the chip sends, and while it takes in bytes.
-use Prim.Native.Nat.{ℕ, zero, suc, _+_, _*_, _/_, _%_, _<_, _≤_}
+use Prim.Native.Nat.{ℕ, zero, suc, _+_, _*_, _/_, _%_, _<_}
 use mathlib.Core.Path.{_≡_, refl, sym, ap, ap₂, _∙_, subst}
-use mathlib.Core.Bool.{Bool, true, false, cond, _&&_}
-use mathlib.Core.List.{List, [], _∷_, _++_, map, append-nil}
+use mathlib.Core.Bool.{Bool, true, _&&_}
+use mathlib.Core.List.{List, [], _∷_, _++_, map}
 use native.Mathlib.Nat.{add-zero}
-use native.Mathlib.Numerals.{add-one}
 use native.Mathlib.Omega.{arith}
-use lib.Dec.{ltb}
 use lib.ListN.{length, length-append}
 use borrow.Author.Tests.{lt-ltb}
 use Rattle.terms.specs.Told.{accepted}
 use Rattle.terms.specs.Bits.{odd, bitsOf, bitsOfBytes, shiftIn}
 use Rattle.terms.proofs.Collect.{collect, collected}
 use Rattle.bus.specs.declared.Event.{Event}
-use Rattle.bus.specs.declared.Event.the-variants.{Reset, Slot}
+use Rattle.bus.specs.declared.Event.the-variants.{Slot}
 use Rattle.bus.specs.Slots.{slots, ones, lines}
 use Rattle.rom_function.specs.declared.RomStage.{RomStage}
 use Rattle.rom_function.specs.declared.RomOutcome.{RomOutcome}
-use Rattle.rom_function.specs.Rom.{romSlot, romBit}
 use Rattle.rom_laws.specs.Rom.{Roms, last, more}
 use Rattle.memory_function.specs.declared.stage.Incoming.{Incoming}
 use Rattle.memory_function.specs.declared.stage.MemoryStage.{MemoryStage}
@@ -56,6 +53,11 @@ pub bits-length : (k x : ℕ) → length (bitsOf k x) ≡ k
 unfolding bitsOf
 bits-length zero x = refl
 bits-length (suc k) x = ap suc (bits-length k (x / 2))
+
+pub bytes-length : (bytes : List ℕ) → length (bitsOfBytes bytes) ≡ 8 * length bytes
+unfolding bitsOfBytes
+bytes-length [] = refl
+bytes-length (b ∷ bs) = omega (arith, length-append (bitsOf 8 b) (bitsOfBytes bs), bits-length 8 b, bytes-length bs)
 
 module _ (n : ℕ) (whole : n % 8 ≡ 0) where
   -- where a run leads, the chip is within its ranges

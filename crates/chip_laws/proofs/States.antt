@@ -1,15 +1,14 @@
 -- Events keep a chip within its ranges; what changes the image; armed and silent chips.
-use Prim.Native.Nat.{ℕ, _+_, _*_, _%_, _<_, _≤_}
-use mathlib.Core.Path.{_≡_, refl, sym, ap, ap₂, _∙_, subst}
-use mathlib.Core.Bool.{Bool, true, false, cond, _&&_}
-use mathlib.Core.List.{List, [], _∷_, _++_, map}
+use Prim.Native.Nat.{ℕ, _%_}
+use mathlib.Core.Path.{_≡_, refl, sym, ap, _∙_, subst}
+use mathlib.Core.Bool.{Bool, true, false, _&&_}
+use mathlib.Core.List.{List, [], _∷_}
 use native.Mathlib.Omega.{arith}
 use lib.ListN.{length}
 use Rattle.terms.specs.Told.{Told, refused, accepted}
 use Rattle.terms.specs.declared.address.Target.{Target}
 use Rattle.bus.specs.declared.Event.{Event}
 use Rattle.bus.specs.declared.Event.the-variants.{Reset, Slot, Pulse, PowerLoss}
-use Rattle.memory.specs.Layout.{imageSize}
 use Rattle.memory.specs.Write.{programmed}
 use Rattle.memory.proofs.Gaps.{programmed-length}
 use Rattle.rom_function.specs.declared.RomStage.{RomStage}
@@ -17,19 +16,17 @@ use Rattle.rom_function.specs.declared.RomOutcome.{RomOutcome}
 use Rattle.rom_function.specs.declared.RomOutcome.the-variants.{Stays, Selected, Deselected}
 use Rattle.rom_function.specs.Rom.{romSlot, romInRange}
 use Rattle.rom_laws.proofs.Sessions.{rom-laws}
-use Rattle.memory_function.specs.declared.stage.MemoryStage.{MemoryStage}
 use Rattle.memory_function.specs.declared.stage.MemoryStage.the-variants.{Silent, Receive, Send, Armed}
 use Rattle.memory_function.specs.Stages.{receiving}
 use Rattle.memory_function.specs.Functions.{memorySlot, memoryBit, pulseImage, pulseStage}
 use Rattle.memory_function.specs.Ranges.{memoryInRange, receiveInRange, incomingInRange}
-use Rattle.range_laws.specs.Ranges.{RangeLaws}
 use Rattle.range_laws.proofs.Keeps.{range-laws}
 use Rattle.chip.specs.declared.event.Stage.{Stage}
 use Rattle.chip.specs.declared.event.Stage.the-variants.{Rom, Memory}
 use Rattle.chip.specs.declared.event.State.{State}
 use Rattle.chip.specs.Page.{unlessRefused}
-use Rattle.chip.specs.Event.{silent, awaitingMemory, powerUp, leading, stageSlot, stageBit, pulseImageOf, stagePulse, inRange, replyOf, imageAfter, stageAfter, stateUnless, eventAnswer, eventState, eventImage}
-use Rattle.chip.specs.Run.{Chip, next, draws, run, answers}
+use Rattle.chip.specs.Event.{silent, powerUp, leading, stageSlot, stageBit, pulseImageOf, stagePulse, inRange, replyOf, imageAfter, stageAfter, stateUnless, eventState, eventImage}
+use Rattle.chip.specs.Run.{Chip, next, draws}
 use Rattle.chip_laws.specs.Session.{Ready, _at_, Goes}
 use Rattle.chip_laws.specs.Laws.{isArmed, isPulse, isReset, silentReply, StateLaws}
 use Rattle.chip_laws.proofs.Runs.{event, next-is, after}

@@ -1,28 +1,26 @@
 -- The two commands that write, over whole sessions.
-use Prim.Native.Nat.{ℕ, zero, suc, _+_, _*_, _/_, _%_, _<_, _≤_}
-use mathlib.Core.Path.{_≡_, refl, sym, ap, ap₂, _∙_, subst}
-use mathlib.Core.Bool.{Bool, true, false, cond, _&&_}
-use mathlib.Core.List.{List, [], _∷_, _++_, map, append-nil}
+use Prim.Native.Nat.{ℕ, suc, _+_, _%_, _<_, _≤_}
+use mathlib.Core.Path.{_≡_, refl, sym, ap, _∙_}
+use mathlib.Core.Bool.{Bool, true, false, cond}
+use mathlib.Core.List.{List, [], _∷_, _++_, append-nil}
 use native.Mathlib.Omega.{arith}
-use native.Mathlib.Nat.{add-zero}
 use lib.Dec.{ltb, lit<}
-use lib.ListN.{length, getD, length-replicate}
-use borrow.Author.Tests.{lt-ltb, le-ltb}
+use lib.ListN.{length, getD}
+use borrow.Author.Tests.{lt-ltb}
 use Rattle.terms.specs.Bits.{bitsOf, bitsOfBytes}
 use Rattle.terms.specs.declared.address.Space.{Space}
 use Rattle.terms.specs.declared.address.Space.the-variants.{Data, Status}
 use Rattle.terms.specs.declared.address.Target.{Target}
-use Rattle.bus.specs.declared.Event.{Event}
 use Rattle.bus.specs.declared.Event.the-variants.{Reset, Pulse}
-use Rattle.bus.specs.Slots.{slots, ones, reading, lines}
-use Rattle.crc.specs.Crc.{crcBytes, crc16Byte, crc16From, crc16Of, crc16Word}
+use Rattle.bus.specs.Slots.{slots, ones, reading}
+use Rattle.crc.specs.Crc.{crcBytes, crc16Byte, crc16Of, crc16Word}
 use Rattle.memory.specs.Image.{targetByte}
 use Rattle.memory.specs.Write.{programmed}
 use Rattle.memory_function.specs.declared.stage.Command.the-variants.{Write}
 use Rattle.memory_function.specs.declared.stage.Incoming.the-variants.{Data as DataByte}
 use Rattle.memory_function.specs.declared.stage.Outgoing.the-variants.{WriteCrc, ReadBack}
 use Rattle.memory_function.specs.declared.stage.MemoryStage.{MemoryStage}
-use Rattle.memory_function.specs.declared.stage.MemoryStage.the-variants.{Silent, Armed}
+use Rattle.memory_function.specs.declared.stage.MemoryStage.the-variants.{Armed}
 use Rattle.memory_function.specs.Limits.{limitOf, isAddress, targetAt}
 use Rattle.memory_function.specs.Stages.{receiving}
 use Rattle.memory_function.specs.Writes.{startWrite, raised, nextWrite, readingBack}
@@ -30,14 +28,13 @@ use Rattle.memory_function.specs.Functions.{received, sent, memoryCommand, addr
 use Rattle.function_laws.specs.Streams.{header}
 use Rattle.function_laws.specs.Writes.{writtenFrom}
 use Rattle.function_laws.proofs.Sending.{byte-out, crc-out}
-use Rattle.chip.specs.declared.event.Stage.{Stage}
 use Rattle.chip.specs.declared.event.Stage.the-variants.{Memory}
-use Rattle.chip.specs.Event.{silent, replyOf, imageAfter, stageAfter, pulseImageOf, stagePulse}
+use Rattle.chip.specs.Event.{replyOf, imageAfter, stageAfter, pulseImageOf, stagePulse}
 use Rattle.chip.specs.Run.{Chip}
 use Rattle.chip_laws.specs.Session.{Ready, _at_, _holding_, Goes, Selection, writeCommand, writeEvents, writeLines, beforeByte}
 use Rattle.chip_laws.specs.Laws.{WriteLaws}
-use Rattle.chip_laws.proofs.Runs.{stays, _then_, event}
-use Rattle.chip_laws.proofs.Slots.{slots-append, lines-read, bits-length, ready, over-memory, byte-in}
+use Rattle.chip_laws.proofs.Runs.{_then_, event}
+use Rattle.chip_laws.proofs.Slots.{lines-read, bits-length, ready, over-memory, byte-in}
 use Rattle.chip_laws.proofs.Sessions.{up-to-address}
 
 module _ (n : ℕ) (whole : n % 8 ≡ 0) where

@@ -3,7 +3,6 @@ use Prim.Native.Nat.{ℕ}
 use mathlib.Core.Path.{_≡_, refl}
 use mathlib.Core.List.{List, [], _∷_, map}
 use Rattle.terms.specs.Bits.{bitsOf}
-use Rattle.crc.specs.Polynomial.{crc16Polynomial, crc8Polynomial}
 use Rattle.crc.specs.Crc.{crcBit, crcBits, crcByte, crcBytes, crc16From, crc16Of, crc16Sent, crc8Of}
 
 pub data Question : Type 0 where

@@ -1,14 +1,12 @@
 -- Bits that go out: of a byte, of a CRC, and of a block of bytes from one address to the last of the block.
 use Prim.Native.Nat.{ℕ, zero, suc, _+_, _-_, _/_, _<_}
-use mathlib.Core.Path.{_≡_, refl, sym, ap, ap₂, _∙_, subst}
+use mathlib.Core.Path.{_≡_, refl, sym, ap, _∙_}
 use mathlib.Core.Bool.{Bool, true, false}
-use mathlib.Core.List.{List, [], _∷_, _++_, append-nil}
+use mathlib.Core.List.{List, _++_, append-nil}
 use native.Mathlib.Nat.{add-zero}
-use native.Mathlib.Numerals.{add-one}
 use native.Mathlib.Omega.{arith}
-use lib.Dec.{ltb}
 use borrow.Author.Tests.{lt-ltb}
-use Rattle.terms.specs.Bits.{odd, bitsOf, bitsOfBytes}
+use Rattle.terms.specs.Bits.{bitsOf, bitsOfBytes}
 use Rattle.crc.specs.Crc.{crcBytes, crc16Byte, crc16From, crc16Word}
 use Rattle.memory_function.specs.declared.stage.Outgoing.{Outgoing}
 use Rattle.memory_function.specs.declared.stage.MemoryStage.{MemoryStage}

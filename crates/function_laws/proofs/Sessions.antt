@@ -1,30 +1,27 @@
 -- The three commands that read send the streams of specs/Streams.antt.
 use Prim.Native.Nat.{ℕ, zero, suc, _+_, _-_, _*_, _/_, _%_, _<_, _≤_}
-use mathlib.Core.Path.{_≡_, refl, sym, ap, ap₂, _∙_, subst}
-use mathlib.Core.Bool.{Bool, true, false, cond}
-use mathlib.Core.List.{List, [], _∷_, _++_, append-nil}
-use native.Mathlib.Nat.{add-zero}
+use mathlib.Core.Path.{_≡_, sym, subst}
+use mathlib.Core.List.{List, [], _∷_, _++_}
 use native.Mathlib.Omega.{arith}
 use lib.Dec.{ltb}
 use borrow.Author.Tests.{lt-ltb, le-ltb}
 use Rattle.terms.specs.Bits.{bitsOf, bitsOfBytes}
 use Rattle.terms.specs.declared.address.DataAddress.{DataAddress}
 use Rattle.terms.specs.declared.address.StatusAddress.{StatusAddress}
-use Rattle.terms.specs.declared.address.Space.the-variants.{Data, Status}
-use Rattle.crc.specs.Crc.{crcBytes, crc16Byte, crc16From, crc16Of, crc16Word}
+use Rattle.terms.specs.declared.address.Space.the-variants.{Status}
+use Rattle.crc.specs.Crc.{crcBytes, crc16Byte, crc16From, crc16Of}
 use Rattle.crc.specs.Polynomial.{crc16Polynomial}
 use Rattle.crc.proofs.Runs.{bytes-after}
 use Rattle.memory.specs.Layout.{dataSize, statusSize}
 use Rattle.memory.specs.Image.{dataByte, statusByte, redirectionOf}
 use Rattle.memory_function.specs.declared.stage.Outgoing.the-variants.{MemoryData, MemoryCrc, StatusData, StatusCrc, RedirectionByte, RedirectionCrc, PageData, PageCrc}
-use Rattle.memory_function.specs.declared.stage.MemoryStage.{MemoryStage}
 use Rattle.memory_function.specs.declared.stage.MemoryStage.the-variants.{Silent}
 use Rattle.memory_function.specs.Limits.{limitOf, isAddress}
-use Rattle.memory_function.specs.Stages.{sendingByte, sendingCrc}
+use Rattle.memory_function.specs.Stages.{sendingCrc}
 use Rattle.memory_function.specs.Reads.{memoryFrom, statusFrom, redirectionFrom, pageFrom, startMemory, startStatus, startExtended, afterMemory, afterStatus, nextStatus, afterPage, nextPage}
 use Rattle.memory_function.specs.Functions.{sent}
 use Rattle.function_laws.specs.Streams.{bytesFrom, crcOf, header, memoryStream, statusPages, statusStream, pageStream, extendedPages, extendedStream}
-use Rattle.function_laws.specs.Reads.{Sends, none, next, ReadLaws}
+use Rattle.function_laws.specs.Reads.{Sends, none, ReadLaws}
 use Rattle.function_laws.proofs.Sending.{_then_, byte-out, crc-out, block}
 
 abbrev data-at : ℕ → DataAddress

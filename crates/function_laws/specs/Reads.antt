@@ -1,5 +1,5 @@
 -- The three commands that read, over whole sessions: what follows the command and its address.
-use Prim.Native.Nat.{ℕ, _%_, _/_, _<_, _≤_}
+use Prim.Native.Nat.{ℕ, _<_}
 use mathlib.Core.Path.{_≡_}
 use mathlib.Core.Bool.{Bool}
 use mathlib.Core.List.{List, [], _∷_}

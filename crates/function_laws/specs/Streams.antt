@@ -3,8 +3,6 @@ use Prim.Native.Nat.{ℕ, zero, suc, _+_, _-_, _*_, _/_, _%_}
 use mathlib.Core.Bool.{Bool}
 use mathlib.Core.List.{List, [], _∷_, _++_}
 use Rattle.terms.specs.Bits.{bitsOf, bitsOfBytes}
-use Rattle.terms.specs.declared.address.Space.{Space}
-use Rattle.terms.specs.declared.address.Space.the-variants.{Data, Status}
 use Rattle.crc.specs.Crc.{crc16Of, crc16Word}
 use Rattle.memory.specs.Layout.{dataSize, statusSize}
 use Rattle.memory.specs.Image.{dataByte, statusByte, redirectionOf}

@@ -1,6 +1,5 @@
 -- The two commands that write, over whole sessions: what the bytes after the command and its address do.
 use Prim.Native.Nat.{ℕ, _+_}
-use mathlib.Core.Bool.{Bool}
 use mathlib.Core.List.{List, [], _∷_}
 use Rattle.terms.specs.declared.address.Space.{Space}
 use Rattle.memory.specs.Write.{programmed}

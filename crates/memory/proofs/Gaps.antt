@@ -1,7 +1,7 @@
 -- A write alters nothing but its target, and no gap; the redirection bytes are status bytes.
-use Prim.Native.Nat.{ℕ, _+_, _-_, _*_, _/_, _<_, _≤_}
+use Prim.Native.Nat.{ℕ, _+_, _-_, _/_, _<_, _≤_}
 use mathlib.Core.Path.{_≡_, refl, sym, ap, _∙_}
-use mathlib.Core.Bool.{Bool, true, false, cond, _&&_, _||_}
+use mathlib.Core.Bool.{Bool, true, false, cond}
 use mathlib.Core.List.{List}
 use native.Mathlib.Decide.{decLt}
 use native.Mathlib.Omega.{arith}
@@ -14,8 +14,8 @@ use Rattle.terms.specs.declared.address.Target.{Target}
 use Rattle.terms.specs.declared.address.Target.the-variants.{Data, Status}
 use Rattle.memory.specs.declared.layout.Field.{Field}
 use Rattle.memory.specs.declared.layout.Field.the-variants.{DataProtection, RedirectionProtection}
-use Rattle.memory.specs.Layout.{statusSize, statusIndex, redirectionBytes, isWithin, isHeld}
-use Rattle.memory.specs.Image.{pageBit, statusByte, redirectionOf}
+use Rattle.memory.specs.Layout.{statusIndex, redirectionBytes, isWithin, isHeld}
+use Rattle.memory.specs.Image.{statusByte, redirectionOf}
 use Rattle.memory.specs.Write.{bitOf, statusWritable, isWritable, indexOf, programmed}
 
 true-not-false : {A : Type 0} → _≡_ {A = Bool} true false → A

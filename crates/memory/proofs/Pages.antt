@@ -1,16 +1,15 @@
 -- A page's bytes: the part of the image, the blank test one byte at a time, and the copy one byte at a time.
 use Prim.Native.Nat.{ℕ, zero, suc, _+_, _-_, _*_, _≤_, _<_, min}
-use mathlib.Core.Path.{_≡_, refl, sym, ap, ap₂, _∙_}
-use mathlib.Core.Bool.{Bool, true, false, _&&_}
+use mathlib.Core.Path.{_≡_, refl, sym, ap, _∙_}
+use mathlib.Core.Bool.{true, false}
 use mathlib.Core.List.{List, [], _∷_}
 use native.Mathlib.Nat.{not-suc-le-zero, le-of-suc-le-suc}
 use native.Mathlib.Numerals.{add-one}
 use native.Mathlib.Decide.{decLt}
 use native.Mathlib.Omega.{arith}
-use lib.Dec.{eqb}
 use lib.ListN.{length, getD, take, drop, set, length-take, length-drop, drop-of-length-le}
-use lib.Seq.{drop-cons, take-all, take-length, take-nil, getD-take, getD-drop}
-use borrow.Author.Tests.{eq-eqb, ne-eqb, eqb-true}
+use lib.Seq.{drop-cons, take-all, take-length, take-nil}
+use borrow.Author.Tests.{eq-eqb, ne-eqb}
 use Rattle.memory.specs.Image.{pageBytes}
 use Rattle.memory.specs.Layout.{imageSize}
 use Rattle.memory.specs.Page.{isBlank, copied}

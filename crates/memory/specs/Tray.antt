@@ -4,8 +4,7 @@ use mathlib.Core.Path.{_≡_, refl}
 use mathlib.Core.Bool.{Bool, true, false, cond}
 use mathlib.Core.List.{List, [], _∷_, map}
 use lib.ListN.{replicate, set}
-use Rattle.terms.specs.declared.address.Target.{Target}
-use Rattle.terms.specs.declared.address.Target.the-variants.{Data, Status}
+use Rattle.terms.specs.declared.address.Target.the-variants.{Data}
 use Rattle.memory.specs.declared.layout.Field.the-variants.{DataProtection}
 use Rattle.memory.specs.Layout.{firstAddress, imageSize, statusIndex, isHeld}
 use Rattle.memory.specs.Image.{pageBit, dataByte, targetByte}

@@ -1,5 +1,5 @@
 -- What a write does to an image, over the page count n: the byte is ANDed into its target, unless that is protected or a gap.
-use Prim.Native.Nat.{ℕ, _+_, _-_, _/_}
+use Prim.Native.Nat.{ℕ, _-_, _/_}
 use mathlib.Core.Bool.{Bool, cond, _&&_}
 use mathlib.Core.List.{List}
 use lib.Bits.{bitAnd}

@@ -1,5 +1,5 @@
 -- Joined to a chip, the read tells what the chip's number says, and the image stays.
-use Prim.Native.Nat.{ℕ, zero, suc, _+_, _-_, _*_, _%_, _<_, _≤_}
+use Prim.Native.Nat.{ℕ, zero, suc, _+_, _-_, _%_, _<_, _≤_}
 use mathlib.Core.Bool.{Bool, true, false}
 use mathlib.Core.List.{List, [], _∷_, _++_}
 use mathlib.Core.Path.{_≡_, refl, sym, ap, ap₂, _∙_, subst}
@@ -23,20 +23,15 @@ use Rattle.chip.specs.Run.{Chip, next}
 use Rattle.chip_laws.specs.Session.{Ready, Bytes, lineAt, _at_, read}
 use Rattle.chip_laws.specs.Session as session
 use Rattle.chip_laws.proofs.Runs.{_then_}
-use Rattle.chip_laws.proofs.Slots.{slots-append, lines-read, bits-length, ready}
+use Rattle.chip_laws.proofs.Bus.{bus-hears}
+use Rattle.chip_laws.proofs.Slots.{slots-append, lines-read, bytes-length, ready}
 use Rattle.chip_laws.proofs.Sessions.{selects, reset}
 use Rattle.number_laws.specs.Laws.{numberVerdict, joints}
 use Rattle.number_laws.specs.Laws as laws
 use Rattle.number_laws.proofs.Ranges.{Fit, shown, starts, fit-step, call-is, told-is}
 use Rattle.number_laws.proofs.Course.{sent, Goes, _on_, _having_, opened, reads}
-use Rattle.number_laws.proofs.Bus.{heard}
 
 -- ---- the chip
-
-bytes-length : (bytes : List ℕ) → length (bitsOfBytes bytes) ≡ 8 * length bytes
-unfolding bitsOfBytes
-bytes-length [] = refl
-bytes-length (b ∷ bs) = omega (arith, length-append (bitsOf 8 b) (bitsOfBytes bs), bits-length 8 b, bytes-length bs)
 
 abbrev numberReplies : List ℕ → List Bool
 numberReplies number = (false ∷ bitsOf 8 0x33) ++ bitsOfBytes number
@@ -80,7 +75,7 @@ module _ (n : ℕ) (whole : n % 8 ≡ 0) where
   ends : (k : ℕ) (t : NumberRead) {c d : Chip} (r : Bool) {rs : List Bool} {es : List Event} → Goes opened rs es t → session.Goes n c es rs d → length rs ≤ k
       → outOf (shown t) ≡ quiet → ((q : Bool) → taken t q ≡ t) → ((q : Bool) → Tells c (showing t d q)) → Tells c (joints n k (showing opened c r))
   ends k t {c} {d} r {rs} g h l e stays tells =
-      let came = joins.joins (next n) (lineAt n) numberState numberAnswer outOf taken shown sent (λ _. refl) Fit fit-step call-is told-is r opened-fit g (heard n h) in
+      let came = joins.joins (next n) (lineAt n) numberState numberAnswer outOf taken shown sent (λ _. refl) Fit fit-step call-is told-is r opened-fit g (bus-hears n h) in
       let m : ℕ = k - length rs in
       let w : k ≡ length rs + m = omega arith in
       let path : joints n k (showing opened c r) ≡ showing t d (came .reply) =

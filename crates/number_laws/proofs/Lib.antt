@@ -1,9 +1,7 @@
 pub mod Agrees
-pub mod Bus
 pub mod Course
 pub mod Demand
 pub mod Ds2505
-pub mod Filled
 pub mod Joined
 pub mod Orders
 pub mod Ranges

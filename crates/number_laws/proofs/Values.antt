@@ -1,38 +1,12 @@
 -- Eight bits are the bits of a byte, and the register that collects them holds that byte.
-use Prim.Native.Nat.{ℕ, _+_, _*_, _/_, _%_, _^_, _<_, _≤_}
-use mathlib.Core.Bool.{Bool, true, false}
-use mathlib.Core.List.{List, [], _∷_}
-use mathlib.Core.Path.{_≡_, refl, sym, ap, ap₂, _∙_}
-use native.Mathlib.Omega.{arith}
-use native.Mathlib.Nat.{pow-succ'}
+use Prim.Native.Nat.{ℕ, _<_}
+use mathlib.Core.Bool.{Bool}
+use mathlib.Core.List.{List}
+use mathlib.Core.Path.{_≡_, ap, _∙_}
 use lib.ListN.{length}
-use borrow.Author.Tests.{eq-eqb, ne-eqb}
-use Rattle.terms.specs.Bits.{one, odd, bitsOf}
+use Rattle.terms.specs.Bits.{bitsOf}
 use Rattle.terms.proofs.Collect.{collect, collected}
-
--- the number that bits write, least significant first
-abbrev valueOf : List Bool → ℕ
-valueOf [] = 0
-valueOf (b ∷ bs) = one b + 2 * valueOf bs
-
-one-le : (b : Bool) → one b ≤ 1
-one-le true = omega arith
-one-le false = omega arith
-
-odd-of : (b : Bool) (v : ℕ) → odd (one b + 2 * v) ≡ b
-odd-of true v = eq-eqb ((1 + 2 * v) % 2) 1 (omega arith)
-odd-of false v = ne-eqb ((0 + 2 * v) % 2) 1 (λ e. omega arith)
-
-bits-value : (bs : List Bool) → bitsOf (length bs) (valueOf bs) ≡ bs
-unfolding bitsOf
-bits-value [] = refl
-bits-value (b ∷ bs) =
-    let h : (one b + 2 * valueOf bs) / 2 ≡ valueOf bs = omega (arith, one-le b) in
-    ap₂ (λ (x : Bool) (y : List Bool). x ∷ y) (odd-of b (valueOf bs)) (ap (bitsOf (length bs)) h ∙ bits-value bs)
-
-value-below : (bs : List Bool) → valueOf bs < 2 ^ length bs
-value-below [] = omega arith
-value-below (b ∷ bs) = omega (arith, one-le b, value-below bs, pow-succ' 2 (length bs))
+use Rattle.terms.proofs.Values.{valueOf, value-bits, byte-below}
 
 pub record Byte (bs : List Bool) : Type 0 where
   pub value : ℕ
@@ -42,6 +16,6 @@ pub record Byte (bs : List Bool) : Type 0 where
 
 pub byte-of : (bs : List Bool) → length bs ≡ 8 → Byte bs
 byte-of bs l =
-    let bits : bs ≡ bitsOf 8 (valueOf bs) = sym (ap (λ (n : ℕ). bitsOf n (valueOf bs)) (sym l) ∙ bits-value bs) in
-    let small : valueOf bs < 256 = rw l at (value-below bs) in
+    let bits = value-bits bs 8 l in
+    let small = byte-below bs l in
     record { value = valueOf bs; bits = bits; small = small; held = ap (collect 0) bits ∙ collected (valueOf bs) small }

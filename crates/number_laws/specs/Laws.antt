@@ -5,11 +5,11 @@ use mathlib.Core.Bool.{Bool, true, false}
 use mathlib.Core.List.{List, [], _∷_, _++_}
 use lib.ListN.{length}
 use Rattle.terms.specs.Bits.{bitsOfBytes}
-use Rattle.terms.specs.Told.{Told, refused, accepted, judge}
+use Rattle.terms.specs.Told.{Told, accepted, judge}
 use Rattle.bus.specs.declared.Event.{Event}
 use Rattle.bus.specs.declared.Event.the-variants.{Reset}
 use Rattle.bus.specs.Slots.{sending, reading}
-use Rattle.master.specs.Next.{Next, send, tells, outOf, eventsOf}
+use Rattle.master.specs.Next.{Next, tells, outOf, eventsOf}
 use Rattle.master.specs.Joint.{Joined}
 use Rattle.master.specs.Joint as joint
 use Rattle.number_read.specs.declared.NumberRead.{NumberRead}

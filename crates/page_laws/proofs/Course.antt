@@ -2,14 +2,12 @@
 use Prim.Native.Nat.{ℕ, zero, suc, _+_, _-_, _*_, _/_, _^_, _<_, _≤_}
 use mathlib.Core.Path.{_≡_, refl, sym, ap, _∙_, subst}
 use mathlib.Core.Bool.{Bool, true, false, cond}
-use mathlib.Core.List.{List, [], _∷_, _++_, append-assoc, append-nil}
+use mathlib.Core.List.{List, [], _∷_, _++_, append-assoc}
 use native.Mathlib.Nat.{div-one}
-use native.Mathlib.Numerals.{add-one}
 use native.Mathlib.Omega.{arith}
 use lib.Dec.{ltb, lit<}
-use lib.ListN.{length, set, take, length-set}
+use lib.ListN.{length, set, take}
 use lib.Pow.{shr-shr}
-use lib.Seq.{take-suc-set, take-all}
 use borrow.Author.Tests.{lt-ltb, le-ltb, eq-eqb, ne-eqb, ltb-true, ltb-false}
 use Rattle.terms.specs.Bits.{bitAt, bitsOf, bitsOfBytes}
 use Rattle.terms.specs.declared.refusal.Refusal.the-variants.{Loop as LoopStop, Outside as OutsideStop}
@@ -27,6 +25,7 @@ use Rattle.page_read.specs.declared.Phase.the-variants.{Presence, Command, Rece
 use Rattle.page_read.specs.declared.PageRead.{PageRead}
 use Rattle.page_read.specs.PageRead.{addressLow, addressHigh, commandByte, commandBit, redirectionCrc, dataCrc, collect, turned, stopped, presence, afterCommand, hopped, onward, followed, judged, nextData, storedAt, stored, dataJudged, partIn, bitIn, closed, takenAt, answerOf, finishes}
 use Rattle.chip_laws.specs.Session.{Bytes}
+use Rattle.terms.proofs.Filled.{filled, filled-is}
 use Rattle.chip_laws.proofs.Slots.{bits-length}
 use Rattle.page_laws.specs.Heard.{visitEvents, visitReplies, pageEvents, pageReplies, Heard, at-final, at-outside, at-loop, at-next}
 use Rattle.page_laws.specs.Laws.{Held, verdictTold, given}
@@ -49,18 +48,6 @@ byte-at : (x : ℕ) → bitsOf 8 x ≡ bitsAt x 0 8
 byte-at x = ap (bitsOf 8) (sym (div-one x)) ∙ bits-at 8 0 x
 
 -- ---- the bytes of a page
-
-abbrev filled : List ℕ → ℕ → List ℕ → List ℕ
-filled bytes k [] = bytes
-filled bytes k (d ∷ ds) = filled (set bytes k d) (k + 1) ds
-
-filled-is : (ds bytes : List ℕ) (k : ℕ) → k + length ds ≡ length bytes → filled bytes k ds ≡ take k bytes ++ ds
-filled-is [] bytes k l = sym (append-nil (take k bytes) ∙ take-all k bytes (omega arith))
-filled-is (d ∷ ds) bytes k l =
-    let m : k < length bytes = omega arith in
-    filled-is ds (set bytes k d) (k + 1) (omega (arith, length-set bytes k d))
-    ∙ ap (λ (x : List ℕ). x ++ ds) (ap (λ (n : ℕ). take n (set bytes k d)) (add-one k) ∙ take-suc-set bytes k d m)
-    ∙ append-assoc (take k bytes) (d ∷ []) ds
 
 abbrev phaseAt : ℕ → Phase
 phaseAt k = cond (ltb k 32) (Receive (Data k) 8 0) (Receive DataCrc 16 0)

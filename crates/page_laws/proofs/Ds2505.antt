@@ -1,6 +1,5 @@
 -- The page read's laws at the DS2505's 64 pages: never more than 3,921 events.
 use mathlib.Core.Path.{_≡_, refl}
-use Prim.Native.Nat.{ℕ}
 use lib.Dec.{lit<, lit≤}
 use Rattle.page_laws.specs.Laws.{PageLaws, mostEvents}
 use Rattle.page_laws.proofs.Demand.{page-laws}

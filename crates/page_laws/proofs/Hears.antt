@@ -1,19 +1,17 @@
 -- What a chip draws over a page read's events: the replies of a visit and of a page, with the bytes of its image.
 use Prim.Native.Nat.{ℕ, zero, suc, _+_, _-_, _*_, _/_, _%_, _<_, _≤_}
-use mathlib.Core.Path.{_≡_, refl, sym, ap, ap₂, _∙_, subst}
+use mathlib.Core.Path.{_≡_, refl, sym, ap, _∙_, subst}
 use mathlib.Core.Bool.{Bool, true, false}
-use mathlib.Core.List.{List, [], _∷_, _++_, map, append-assoc}
+use mathlib.Core.List.{List, [], _∷_, _++_, append-assoc}
 use native.Mathlib.Numerals.{add-one}
 use native.Mathlib.Omega.{arith}
 use lib.Dec.{lit<}
 use lib.ListN.{length, getD, take, drop, length-append, length-replicate}
 use lib.Seq.{drop-cons}
 use borrow.Author.Tests.{lt-ltb}
-use Rattle.terms.specs.Told.{accepted}
 use Rattle.terms.specs.Bits.{bitsOf, bitsOfBytes}
-use Rattle.bus.specs.declared.Event.{Event}
 use Rattle.bus.specs.declared.Event.the-variants.{Reset}
-use Rattle.bus.specs.Slots.{slots, ones, lines}
+use Rattle.bus.specs.Slots.{slots, ones}
 use Rattle.crc.specs.Crc.{crc16Of}
 use Rattle.memory.specs.Layout.{imageSize, dataSize}
 use Rattle.memory.specs.Image.{dataByte, redirectionOf, pageBytes}
@@ -28,38 +26,13 @@ use Rattle.function_laws.specs.Reads.{Sends, none, next}
 use Rattle.function_laws.proofs.Sessions.{read-laws}
 use Rattle.chip.specs.declared.event.Stage.the-variants.{Memory}
 use Rattle.chip.specs.Event.{awaitingRom}
-use Rattle.chip.specs.Run.{Chip, draws, run, answers}
-use Rattle.chip.specs.Run as chip
-use Rattle.chip_laws.specs.Session.{Ready, _at_, Goes, skip, lineOf, lineAt}
+use Rattle.chip.specs.Run.{Chip, draws}
+use Rattle.chip_laws.specs.Session.{Ready, _at_, Goes, skip}
 use Rattle.chip_laws.proofs.Runs.{_then_}
-use Rattle.chip_laws.proofs.Slots.{lines-read, bits-length, ready, over-memory}
+use Rattle.chip_laws.proofs.Slots.{lines-read, bits-length, bytes-length, ready, over-memory}
 use Rattle.chip_laws.proofs.Sessions.{reset, up-to-address}
-use Rattle.master.specs.Joint as joint
-use Rattle.master.proofs.Joins as joins
 use Rattle.page_read.specs.PageRead.{addressLow, addressHigh, redirectionCrc, dataCrc}
 use Rattle.page_laws.specs.Heard.{visitEvents, visitReplies, pageEvents, pageReplies}
-use Rattle.page_laws.proofs.Values.{bytes-length}
-
--- ---- a session, as a bus hears it
-
-module _ (n : ℕ) where
-  lines-are : (es : List Event) (rs : List Bool) (c : Chip) → answers n c es ≡ map accepted rs → joint.lines (chip.next n) (lineAt n) c es ≡ rs
-  unfolding answers
-  lines-are [] [] c e = refl
-  lines-are [] (r ∷ rs) c e = let z : _≡_ {A = ℕ} 0 1 = cc in absurd (omega arith)
-  lines-are (x ∷ es) [] c e = let z : _≡_ {A = ℕ} 0 1 = cc in absurd (omega arith)
-  lines-are (x ∷ es) (r ∷ rs) c e =
-      let a : draws n c x ≡ accepted r = cc in
-      let b : answers n (chip.next n c x) es ≡ map accepted rs = cc in
-      ap₂ (λ (y : Bool) (l : List Bool). y ∷ l) (ap lineOf a) (lines-are es rs (chip.next n c x) b)
-
-  run-is : (es : List Event) (c : Chip) → joint.run (chip.next n) (lineAt n) c es ≡ run n c es
-  unfolding run
-  run-is [] c = refl
-  run-is (e ∷ es) c = run-is es (chip.next n c e)
-
-  pub hears : {c d : Chip} {es : List Event} {rs : List Bool} → Goes n c es rs d → joins.Hears (chip.next n) (lineAt n) c es rs d
-  hears {c} {d} {es} {rs} g = record { path = run-is es c ∙ g .there; replies = lines-are es rs c (g .told) }
 
 -- ---- what is sent, cut in two
 

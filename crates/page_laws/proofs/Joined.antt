@@ -17,14 +17,13 @@ use Rattle.master.proofs.Joins as joins
 use Rattle.page_read.specs.PageRead.{redirectionCrc, dataCrc, begun}
 use Rattle.chip.specs.Run.{Chip, next}
 use Rattle.chip_laws.specs.Session.{Ready, Bytes, _at_, lineAt}
-use Rattle.chip_laws.proofs.Slots.{bits-length}
+use Rattle.chip_laws.proofs.Bus.{bus-hears}
+use Rattle.chip_laws.proofs.Slots.{bits-length, bytes-length}
 use Rattle.page_read.specs.declared.Phase.the-variants.{Presence}
 use Rattle.page_laws.specs.Heard.{visitReplies, pageReplies, Heard, at-final, at-outside, at-loop, at-next}
 use Rattle.page_laws.specs.Laws.{Held, told, called, verdictTold, joints, opened, Tells, mostEvents}
-use Rattle.page_laws.proofs.Values.{bytes-length}
 use Rattle.page_laws.proofs.Steps.{held, step, show, sent, standing, cleared, Fit, call-is, told-is, fit-step, starts-so, begun-fit, first-step}
 use Rattle.page_laws.proofs.Course.{heard}
-use Rattle.page_laws.proofs.Hears.{hears}
 use Rattle.page_laws.proofs.Reading.{Reading, reading}
 
 -- ---- how many replies there are
@@ -89,7 +88,7 @@ module _ (n : ℕ) (whole : n % 8 ≡ 0) (low : n ≤ 256) where
         let e = heard n cleared lent refl room (r .heard) in
         let k : ℕ = m - length (r .replies) in
         let l : m ≡ length (r .replies) + k = omega (arith, heard-length (r .heard) (omega arith)) in
-        let j = joins.joins (next n) (lineAt n) (called n) (told n) outOf (step n) show sent (λ x. refl) (Fit n) (fit-step n) (call-is n) (told-is n) first begin-fit (e .course) (hears n (r .goes)) in
+        let j = joins.joins (next n) (lineAt n) (called n) (told n) outOf (step n) show sent (λ x. refl) (Fit n) (fit-step n) (call-is n) (told-is n) first begin-fit (e .course) (bus-hears n (r .goes)) in
         let all =
         ap (λ (i : ℕ). joints n i (showing begin c first)) l
         ∙ joins.joints-add (next n) (lineAt n) (called n) (told n) outOf (step n) show sent (λ x. refl) (Fit n) (fit-step n) (call-is n) (told-is n) (length (r .replies)) k (showing begin c first)

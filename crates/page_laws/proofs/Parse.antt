@@ -8,6 +8,7 @@ use lib.Dec.{eqb, ltb, lit<}
 use lib.ListN.{length, take, drop, length-drop, take-append-drop}
 use lib.Seq.{length-take-le}
 use borrow.Author.Tests.{eqb-true, eqb-false, ltb-true, ltb-false}
+use Rattle.terms.proofs.Values.{valueOf, value-bits, byte-below}
 use Rattle.terms.specs.Bits.{bitsOf, bitsOfBytes}
 use Rattle.terms.specs.Told.{refused, accepted}
 use Rattle.terms.specs.declared.refusal.Refusal.{Refusal}
@@ -26,7 +27,7 @@ use Rattle.page_read.specs.PageRead.{addressLow, addressHigh, redirectionCrc, d
 use Rattle.chip_laws.specs.Session.{Bytes}
 use Rattle.page_laws.specs.Heard.{visitEvents, visitReplies, pageEvents, pageReplies, Redirects, Heard, at-final, at-outside, at-loop, at-next, Begins, Sent, visiting, reading-page, onward}
 use Rattle.page_laws.specs.Laws.{verdictTold}
-use Rattle.page_laws.proofs.Values.{valueOf, value-bits, byte-below, word-below, bytes-of}
+use Rattle.page_laws.proofs.Values.{word-below, bytes-of}
 use Rattle.page_laws.proofs.Steps.{held, sent, standing, says, replied}
 use Rattle.page_laws.proofs.Course.{Course, _on_, present, visit, visited, follow-valid, follow-outside, follow-loop, follow-next, data-taken, data-judged-so}
 use Rattle.page_laws.proofs.Cuts.{begins-all, begins-end, begins-on, begins-more, shows, sends, events-on, replied-on, Cut, short, full, cut, over-state, over-events}

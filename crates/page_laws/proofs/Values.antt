@@ -1,15 +1,16 @@
 -- What the register holds after bits were shifted into it: the byte or the word that they write.
-use Prim.Native.Nat.{ℕ, zero, suc, _+_, _*_, _/_, _%_, _^_, _<_, _≤_}
+use Prim.Native.Nat.{ℕ, zero, suc, _+_, _*_, _/_, _%_, _^_, _<_}
 use mathlib.Core.Path.{_≡_, refl, sym, ap, ap₂, _∙_}
 use mathlib.Core.Bool.{Bool, true, false}
 use mathlib.Core.List.{List, [], _∷_, _++_}
 use native.Mathlib.Nat.{mul-assoc, mul-comm, add-mul, mul-add, pow-succ', pow-suc}
 use native.Mathlib.Omega.{arith}
 use lib.Dec.{eqb}
-use lib.ListN.{length, take, drop, length-append, length-drop, take-append-drop}
+use lib.ListN.{length, take, drop, length-drop, take-append-drop}
 use lib.Seq.{length-take-le}
-use borrow.Author.Tests.{eq-eqb, ne-eqb, eqb-true, eqb-false}
+use borrow.Author.Tests.{eqb-true, eqb-false}
 use Rattle.terms.specs.Bits.{one, odd, bitsOf, bitsOfBytes}
+use Rattle.terms.proofs.Values.{valueOf, value-bits, value-below, byte-below}
 use Rattle.page_read.specs.PageRead.{collect}
 use Rattle.chip_laws.specs.Session.{Bytes}
 use Rattle.chip_laws.proofs.Slots.{bits-length}
@@ -18,37 +19,6 @@ use Rattle.chip_laws.proofs.Slots.{bits-length}
 abbrev pub collects : ℕ → List Bool → ℕ
 collects v [] = v
 collects v (b ∷ bs) = collects (collect v b) bs
-
--- the number that bits write, least significant first
-abbrev pub valueOf : List Bool → ℕ
-valueOf [] = 0
-valueOf (b ∷ bs) = one b + 2 * valueOf bs
-
-one-le : (b : Bool) → one b ≤ 1
-one-le true = omega arith
-one-le false = omega arith
-
-odd-of : (b : Bool) (v : ℕ) → odd (one b + 2 * v) ≡ b
-odd-of true v = eq-eqb ((1 + 2 * v) % 2) 1 (omega arith)
-odd-of false v = ne-eqb ((0 + 2 * v) % 2) 1 (λ e. omega arith)
-
--- bits are those of the number that they write
-bits-value : (bs : List Bool) → bitsOf (length bs) (valueOf bs) ≡ bs
-unfolding bitsOf
-bits-value [] = refl
-bits-value (b ∷ bs) =
-    let h : (one b + 2 * valueOf bs) / 2 ≡ valueOf bs = omega (arith, one-le b) in
-    ap₂ (λ (x : Bool) (y : List Bool). x ∷ y) (odd-of b (valueOf bs)) (ap (bitsOf (length bs)) h ∙ bits-value bs)
-
-pub value-bits : (bs : List Bool) (k : ℕ) → length bs ≡ k → bs ≡ bitsOf k (valueOf bs)
-value-bits bs k l = sym (ap (λ (n : ℕ). bitsOf n (valueOf bs)) (sym l) ∙ bits-value bs)
-
-value-below : (bs : List Bool) → valueOf bs < 2 ^ length bs
-value-below [] = omega arith
-value-below (b ∷ bs) = omega (arith, one-le b, value-below bs, pow-succ' 2 (length bs))
-
-pub byte-below : (bs : List Bool) → length bs ≡ 8 → valueOf bs < 256
-byte-below bs l = rw l at (value-below bs)
 
 one-odd : (v : ℕ) → one (odd v) ≡ v % 2
 one-odd v = go (eqb (v % 2) 1) refl
@@ -97,11 +67,6 @@ byte-in b l = eight-in (bitsOf 8 b) (bits-length 8 b) ∙ value-of 8 b l
 
 pub word-in : (w : ℕ) → w < 65536 → collects 0 (bitsOf 16 w) ≡ w
 word-in w l = sixteen-in (bitsOf 16 w) (bits-length 16 w) ∙ value-of 16 w l
-
-pub bytes-length : (bytes : List ℕ) → length (bitsOfBytes bytes) ≡ 8 * length bytes
-unfolding bitsOfBytes
-bytes-length [] = refl
-bytes-length (b ∷ bs) = omega (arith, length-append (bitsOf 8 b) (bitsOfBytes bs), bits-length 8 b, bytes-length bs)
 
 pub word-below : (bs : List Bool) → length bs ≡ 16 → valueOf bs < 65536
 word-below bs l = rw l at (value-below bs)

@@ -1,7 +1,7 @@
 -- The page read over whole runs: whatever the replies, and joined to a chip. n is the page count.
 use Prim.Native.Nat.{ℕ, _+_, _*_, _<_, _≤_}
 use mathlib.Core.Path.{_≡_}
-use mathlib.Core.Bool.{Bool, true, false}
+use mathlib.Core.Bool.{Bool, true}
 use mathlib.Core.List.{List, [], _∷_, _++_}
 use lib.ListN.{length}
 use Rattle.terms.specs.Told.{Told, refused, accepted}
@@ -10,11 +10,11 @@ use Rattle.terms.specs.declared.verdict.Verdict.the-variants.{Final, Loop, Outs
 use Rattle.bus.specs.declared.Event.{Event}
 use Rattle.memory.specs.Image.{pageBytes}
 use Rattle.chain.specs.Walk.{walkOf}
-use Rattle.master.specs.Next.{Next, send, tells, outOf, eventsOf}
+use Rattle.master.specs.Next.{Next, tells, outOf, eventsOf}
 use Rattle.master.specs.Joint.{Joined}
 use Rattle.master.specs.Joint as joint
 use Rattle.page_read.specs.declared.PageRead.{PageRead}
-use Rattle.page_read.specs.PageRead.{inRange, begun, startState, readAnswer, readState, readBuffer}
+use Rattle.page_read.specs.PageRead.{inRange, startState, readAnswer, readState, readBuffer}
 use Rattle.chip.specs.Run.{Chip, next}
 use Rattle.chip_laws.specs.Session.{Ready, Bytes, lineAt}
 use Rattle.page_laws.specs.Heard.{Heard, Sent, visitEvents, pageEvents}

@@ -2,40 +2,39 @@
 use Prim.Native.Nat.{ℕ, _+_, _-_, _%_, _<_, _≤_}
 use mathlib.Core.Path.{_≡_, refl, sym, ap, ap₂, _∙_, subst}
 use mathlib.Core.Bool.{Bool, true, false, cond}
-use mathlib.Core.List.{List, [], _∷_, _++_, map, append-assoc}
+use mathlib.Core.List.{List, [], _∷_}
 use native.Mathlib.Omega.{arith}
-use lib.Dec.{ltb, eqb, lit<, lit≤}
-use lib.ListN.{length, getD, take, replicate, length-append, length-replicate}
+use lib.Dec.{ltb, lit<, lit≤}
+use lib.ListN.{length, getD, take, replicate}
 use lib.Seq.{take-append-le}
 use borrow.Author.Tests.{lt-ltb, le-ltb, eq-eqb}
-use Rattle.terms.specs.Told.{Told, accepted, refused, refusing}
+use Rattle.terms.specs.Told.{Told, accepted, refused}
 use Rattle.terms.specs.Refusal.{numberOf, valuesOf}
 use Rattle.terms.specs.declared.address.Page.{Page}
-use Rattle.terms.specs.declared.refusal.Refusal.{Refusal}
 use Rattle.terms.specs.declared.verdict.Verdict.the-variants.{Final}
 use Rattle.bus.specs.declared.Event.{Event}
-use Rattle.bus.specs.declared.Event.the-variants.{Reset, Pulse, PowerLoss}
+use Rattle.bus.specs.declared.Event.the-variants.{Reset, PowerLoss}
 use Rattle.chain.specs.Walk.{final, walkOf}
-use Rattle.memory.specs.Page.{copied}
 use Rattle.memory.proofs.Pages.{copied-same}
-use Rattle.update_laws.specs.Update.{Reading, readOf, moved, movedBy}
-use Rattle.master.specs.Next.{Next, send, tells, eventsOf}
+use Rattle.update_laws.specs.Update.{readOf, moved, movedBy}
+use Rattle.master.specs.Next.{Next}
 use Rattle.plan.specs.declared.Step.{Step}
 use Rattle.plan.specs.Plan.{planOf, total}
 use Rattle.publisher.specs.declared.Choice.{Choice}
 use Rattle.publisher.specs.declared.Choice.the-variants.{Refused, Accepted}
 use Rattle.publisher.specs.declared.Stage.the-variants.{Running}
 use Rattle.publisher.specs.declared.Publisher.{Publisher}
-use Rattle.publisher.specs.Start.{choiceOf, choiceTold, choiceState, ready, bitmapByte, startAnswer, startState}
+use Rattle.publisher.specs.Start.{choiceOf, choiceTold, choiceState, ready, bitmapByte, startState}
 use Rattle.publisher.specs.Call.{planIn, inRange}
-use Rattle.chip.specs.Run.{Chip, next, run}
+use Rattle.chip.specs.Run.{Chip, run}
 use Rattle.chip_laws.specs.Session.{Ready, Bytes}
 use Rattle.chip_laws.proofs.Runs.{run-append}
 use Rattle.chip_laws.proofs.States.{image-kept}
 use Rattle.plan_laws.specs.Plan.{stepEvents, shown, Fits, Accepts, planFor, PlanLaws}
 use Rattle.plan_laws.proofs.Starts.{chosen-means}
 use Rattle.plan_laws.proofs.Laws.{plan-laws}
-use Rattle.call_laws.specs.Calls.{answersTo, Good, Begins, CallLaws}
+use Rattle.plan_laws.proofs.Stretches.{events-length}
+use Rattle.call_laws.specs.Calls.{answersTo, Begins}
 use Rattle.call_laws.proofs.Laws.{call-laws}
 use Rattle.publisher_laws.specs.Demand.{returned, reaching, readAfter, Update, Demand3}
 
@@ -46,11 +45,6 @@ cut-image n c events m false = refl
 cut-image n c events m true =
     ap (λ (d : Chip). d .image) (run-append n c (take m events) (PowerLoss ∷ []))
     ∙ unfold run in image-kept n (run n c (take m events)) PowerLoss refl
-
-events-length : (steps : List Step) → length (stepEvents steps) ≡ length steps
-unfolding stepEvents
-events-length [] = refl
-events-length (s ∷ ss) = ap (λ k. Prim.Native.Nat.suc k) (events-length ss)
 
 -- a page that ended at l reads as the new page
 moved-final : (n : ℕ) (img new : List ℕ) (p : ℕ) (l : Page) (t hops : ℕ) → walkOf n img p ≡ Final l hops

@@ -7,18 +7,17 @@ use mathlib.Core.Bool.{Bool, true, false, cond}
 use mathlib.Core.List.{List, [], _∷_, _++_, map}
 use lib.Dec.{ltb}
 use lib.ListN.{length, getD, take, replicate}
-use Rattle.terms.specs.Told.{Told, accepted, refused}
+use Rattle.terms.specs.Told.{accepted, refused}
 use Rattle.terms.specs.declared.verdict.Verdict.the-variants.{Final}
 use Rattle.bus.specs.declared.Event.{Event}
 use Rattle.bus.specs.declared.Event.the-variants.{Reset, Pulse, PowerLoss}
 use Rattle.chain.specs.Walk.{final, walkOf}
 use Rattle.update_laws.specs.Update.{Reading, readOf, moved}
-use Rattle.master.specs.Next.{Next, send, tells, eventsOf}
+use Rattle.master.specs.Next.{send, tells, eventsOf}
 use Rattle.publisher.specs.declared.Publisher.{Publisher}
 use Rattle.publisher.specs.Start.{startAnswer, startState}
 use Rattle.publisher.specs.Call.{planIn}
 use Rattle.chip.specs.Run.{Chip, run}
-use Rattle.chip_laws.specs.Session.{Ready, Bytes}
 use Rattle.plan.specs.Plan.{total}
 use Rattle.plan_laws.specs.Plan.{stepEvents, shown}
 use Rattle.call_laws.specs.Calls.{answersTo, Good, Begins}

@@ -1,5 +1,5 @@
 -- The memory functions keep a stage within its ranges, over the page count n, a multiple of 8.
-use Prim.Native.Nat.{ℕ, _%_}
+use Prim.Native.Nat.{ℕ}
 use mathlib.Core.Path.{_≡_}
 use mathlib.Core.Bool.{Bool, true}
 use mathlib.Core.List.{List}

@@ -1,3 +1,5 @@
 pub mod Collect
+pub mod Filled
 pub mod Refusals
+pub mod Values
 pub mod Words

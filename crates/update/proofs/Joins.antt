@@ -1,12 +1,12 @@
 -- The publisher joined to a chip runs through its plan, so that the image after so many calls reads as demand 3 says.
-use Prim.Native.Nat.{ℕ, zero, suc, _+_, _-_, _%_, _<_, _≤_}
+use Prim.Native.Nat.{ℕ, zero, suc, _+_, _-_, _<_, _≤_}
 use mathlib.Core.Path.{_≡_, refl, sym, ap, ap₂, _∙_, subst}
-use mathlib.Core.Bool.{Bool, true, false, cond}
+use mathlib.Core.Bool.{Bool, true, cond}
 use mathlib.Core.List.{List, [], _∷_, _++_, map}
 use native.Mathlib.Nat.{le-of-suc-le-suc, not-suc-le-zero}
 use native.Mathlib.Omega.{arith}
 use lib.Dec.{ltb, lit<, lit≤}
-use lib.ListN.{length, getD, take, replicate}
+use lib.ListN.{length, take, replicate}
 use lib.Seq.{take-nil}
 use Rattle.terms.specs.Told.{Told, accepted, refused, refusing}
 use Rattle.terms.specs.declared.address.Page.{Page}
@@ -26,8 +26,8 @@ use Rattle.publisher.specs.Start.{choiceOf, choiceTold, choiceState, ready, bit
 use Rattle.publisher.specs.Call.{planIn, inRange}
 use Rattle.chip.specs.declared.event.State.{State}
 use Rattle.chip.specs.Event.{powerUp}
-use Rattle.chip.specs.Run.{Chip, next, run}
-use Rattle.chip_laws.specs.Session.{Ready, Bytes}
+use Rattle.chip.specs.Run.{Chip, run}
+use Rattle.chip_laws.specs.Session.{Bytes}
 use Rattle.chip_laws.proofs.Ds2505.{states}
 use Rattle.plan_laws.specs.Plan.{stepEvents, Fits, shown, Accepts, planFor, PlanLaws}
 use Rattle.plan_laws.proofs.Starts.{chosen-means}

@@ -1,7 +1,7 @@
 -- A whole update on an image: the publisher joined to a chip, and what the image then reads as. n is the page count.
 use Prim.Native.Nat.{ℕ, zero, suc, _<_}
 use mathlib.Core.Path.{_≡_}
-use mathlib.Core.Bool.{Bool, true, cond}
+use mathlib.Core.Bool.{true, cond}
 use mathlib.Core.List.{List, [], _∷_}
 use lib.Dec.{ltb}
 use Rattle.terms.specs.Told.{Told, accepted, refusing}
@@ -12,7 +12,7 @@ use Rattle.update_laws.specs.Update.{readOf, moved}
 use Rattle.publisher.specs.declared.Choice.{Choice}
 use Rattle.publisher.specs.declared.Choice.the-variants.{Refused, Accepted}
 use Rattle.publisher.specs.declared.Publisher.{Publisher}
-use Rattle.publisher.specs.Start.{choiceOf, startState, ready}
+use Rattle.publisher.specs.Start.{choiceOf, ready}
 use Rattle.chip.specs.Event.{powerUp}
 use Rattle.chip.specs.Run.{Chip, next}
 use Rattle.chip_laws.specs.Session.{lineAt}

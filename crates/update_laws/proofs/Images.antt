@@ -1,18 +1,17 @@
 -- Over the images of an update: until the redirection byte of l is written each page but t reads as before, and then the pages that ended at l read as the new page.
-use Prim.Native.Nat.{ℕ, zero, suc, _+_, _-_, _*_, _/_, _<_, _≤_}
-use mathlib.Core.Path.{_≡_, refl, sym, ap, _∙_, subst}
-use mathlib.Core.Logic.{_⊎_, inl, inr}
+use Prim.Native.Nat.{ℕ, suc, _-_, _<_, _≤_}
+use mathlib.Core.Path.{_≡_, ap, _∙_}
+use mathlib.Core.Logic.{inr}
 use mathlib.Core.List.{List}
 use native.Mathlib.Omega.{arith}
-use lib.ListN.{length, getD, set, length-set}
+use lib.ListN.{length, length-set}
 use lib.Seq.{getD-set-same, getD-set-other}
 use Rattle.memory.specs.declared.layout.Field.the-variants.{UsedPages}
-use Rattle.memory.specs.Layout.{imageSize, firstAddress}
+use Rattle.memory.specs.Layout.{imageSize}
 use Rattle.memory.proofs.Sizes.{first-low}
 use Rattle.memory.specs.Image.{redirectionOf, pageBytes}
 use Rattle.chain.specs.Walk.{namedBy, walkOf, walkBy, final}
-use Rattle.update_laws.specs.Update.{Reading, bytesUnder, readOf, redirectionIndex, bitmapIndex, stored, cleared, filled, linked}
-use Rattle.terms.specs.declared.verdict.Verdict.the-variants.{Final, Loop, Outside}
+use Rattle.update_laws.specs.Update.{bytesUnder, readOf, redirectionIndex, bitmapIndex, cleared, filled, linked}
 use Rattle.chain.proofs.Walks.{final-means}
 use Rattle.update_laws.proofs.Relink.{Relinked, walk-moves, walk-stays, only-itself, final-below}
 use Rattle.chain.specs.Chain.{EndsFinal}

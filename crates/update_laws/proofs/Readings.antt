@@ -1,27 +1,25 @@
 -- What the start of an update makes sure of is enough, and what each page then reads as, in one equation.
-use Prim.Native.Nat.{ℕ, zero, suc, _+_, _-_, _<_, _≤_}
+use Prim.Native.Nat.{ℕ, _+_, _-_, _<_, _≤_}
 use mathlib.Core.Path.{_≡_, refl, sym, ap, _∙_}
 use mathlib.Core.Bool.{Bool, true, false, cond}
 use mathlib.Core.List.{List}
-use native.Mathlib.Omega.{arith}
 use native.Mathlib.Numerals.{add-one}
-use native.Mathlib.Decide.{decLt}
 use lib.ListN.{length}
-use lib.Dec.{eqb, ltb}
-use borrow.Author.Tests.{eqb-true, eqb-false, ltb-true, ltb-false, lt-ltb, le-ltb}
-use Rattle.memory.specs.Layout.{imageSize, firstAddress}
-use Rattle.memory.specs.Image.{redirectionOf, pageBytes}
-use Rattle.chain.specs.Walk.{namedBy, final, walkOf, walkBy}
-use Rattle.chain.specs.Free.{Free, Lowest, lowestFree}
-use Rattle.update_laws.specs.Update.{Reading, readOf, filled, linked, movedBy, moved}
+use lib.Dec.{eqb}
+use borrow.Author.Tests.{eqb-true, eqb-false}
+use Rattle.memory.specs.Layout.{imageSize}
+use Rattle.memory.specs.Image.{redirectionOf}
+use Rattle.chain.specs.Walk.{final, walkOf}
+use Rattle.chain.specs.Free.{lowestFree}
+use Rattle.update_laws.specs.Update.{readOf, linked, movedBy, moved}
 use Rattle.terms.specs.declared.address.Page.{Page}
 use Rattle.terms.specs.declared.verdict.Verdict.{Verdict}
 use Rattle.terms.specs.declared.verdict.Verdict.the-variants.{Final, Loop, Outside}
-use Rattle.chain.specs.declared.free.Found.the-variants.{At, Nothing}
+use Rattle.chain.specs.declared.free.Found.the-variants.{At}
 use Rattle.chain.proofs.Walks.{final-means, final-not-loop, final-not-outside}
 use Rattle.update_laws.proofs.Relink.{final-below}
 use Rattle.chain.proofs.Frees.{found-means, leads-elsewhere}
-use Rattle.update_laws.proofs.Images.{Accepted, reads-before, reads-moved, reads-stayed}
+use Rattle.update_laws.proofs.Images.{Accepted, reads-moved, reads-stayed}
 
 -- an update that the start accepts: l is where p ends, and t the lowest free page other than l
 pub accepted : (n : ℕ) (img new : List ℕ) (p l h t : ℕ) → length img ≡ imageSize n → n ≤ 256 → length new ≡ 32 → p < n

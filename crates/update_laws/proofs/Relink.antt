@@ -1,10 +1,9 @@
 -- Chains before and after one redirection byte is written: that of the valid page l, which then names t.
-use Prim.Native.Nat.{ℕ, zero, suc, _+_, _-_, _<_, _≤_}
-use mathlib.Core.Path.{_≡_, refl, sym, ap, _∙_, subst}
+use Prim.Native.Nat.{ℕ, zero, suc, _-_, _<_, _≤_}
+use mathlib.Core.Path.{_≡_, refl, sym, ap, _∙_}
 use mathlib.Core.Logic.{_⊎_, inl, inr}
 use native.Mathlib.Omega.{arith}
-use native.Mathlib.Nat.{not-suc-le-zero, le-of-suc-le-suc, eq-or-lt-of-le}
-use Rattle.terms.specs.declared.verdict.Verdict.the-variants.{Outside, Loop}
+use native.Mathlib.Nat.{le-of-suc-le-suc, eq-or-lt-of-le}
 use Rattle.chain.specs.Walk.{namedBy, final, walkBy}
 use Rattle.chain.specs.Chain.{met, Inside, EndsFinal, EndsOutside, Endless}
 use Rattle.chain.proofs.Walks.{Ends, at-final, at-outside, at-none, ends, walk-final, walk-outside, walk-loop, met-suc, final-means}

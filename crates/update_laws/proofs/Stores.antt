@@ -1,14 +1,13 @@
 -- What a store into an image leaves as it was: the redirection bytes, and the bytes of a page.
 use Prim.Native.Nat.{ℕ, zero, suc, _+_, _-_, _*_, _<_, _≤_}
 use mathlib.Core.Path.{_≡_, refl, sym, ap, _∙_, fun-ext}
-use mathlib.Core.Logic.{_⊎_, inl, inr, _≢_}
+use mathlib.Core.Logic.{_⊎_, inl, inr}
 use mathlib.Core.List.{List}
 use native.Mathlib.Omega.{arith}
 use native.Mathlib.Decide.{decLt}
 use native.Mathlib.Nat.{not-suc-le-zero, le-of-suc-le-suc, eq-or-lt-of-le}
 use lib.ListN.{length, getD, take, drop, set, length-set, length-take, length-drop}
 use lib.Seq.{getD-set-same, getD-set-other, drop-set-lt, drop-set-add, take-set-le, getD-take, getD-drop, ext-getD}
-use Rattle.memory.specs.Layout.{imageSize, firstAddress}
 use Rattle.memory.specs.Image.{redirectionOf, pageBytes}
 use Rattle.chain.specs.Walk.{walkOf, final}
 use Rattle.update_laws.specs.Update.{Reading, bytesUnder, readOf, redirectionIndex, stored}

@@ -27,5 +27,5 @@ module _ (n : ℕ) where
   run-is [] c = refl
   run-is (e ∷ es) c = run-is es (next n c e)
 
-  pub heard : {c d : Chip} {es : List Event} {rs : List Bool} → Goes n c es rs d → Hears (next n) (lineAt n) c es rs d
-  heard {c} {d} {es} {rs} g = record { path = run-is es c ∙ g .there; replies = lines-are es rs c (g .told) }
+  pub bus-hears : {c d : Chip} {es : List Event} {rs : List Bool} → Goes n c es rs d → Hears (next n) (lineAt n) c es rs d
+  bus-hears {c} {d} {es} {rs} g = record { path = run-is es c ∙ g .there; replies = lines-are es rs c (g .told) }

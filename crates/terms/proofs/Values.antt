@@ -1,0 +1,41 @@
+-- The number that bits write.
+use Prim.Native.Nat.{ℕ, _+_, _*_, _/_, _%_, _^_, _<_, _≤_}
+use mathlib.Core.Bool.{Bool, true, false}
+use mathlib.Core.List.{List, [], _∷_}
+use mathlib.Core.Path.{_≡_, refl, sym, ap, ap₂, _∙_}
+use native.Mathlib.Omega.{arith}
+use native.Mathlib.Nat.{pow-succ'}
+use lib.ListN.{length}
+use borrow.Author.Tests.{eq-eqb, ne-eqb}
+use Rattle.terms.specs.Bits.{one, odd, bitsOf}
+
+-- least significant bit first
+abbrev pub valueOf : List Bool → ℕ
+valueOf [] = 0
+valueOf (b ∷ bs) = one b + 2 * valueOf bs
+
+one-le : (b : Bool) → one b ≤ 1
+one-le true = omega arith
+one-le false = omega arith
+
+odd-of : (b : Bool) (v : ℕ) → odd (one b + 2 * v) ≡ b
+odd-of true v = eq-eqb ((1 + 2 * v) % 2) 1 (omega arith)
+odd-of false v = ne-eqb ((0 + 2 * v) % 2) 1 (λ e. omega arith)
+
+bits-value : (bs : List Bool) → bitsOf (length bs) (valueOf bs) ≡ bs
+unfolding bitsOf
+bits-value [] = refl
+bits-value (b ∷ bs) =
+    let h : (one b + 2 * valueOf bs) / 2 ≡ valueOf bs = omega (arith, one-le b) in
+    ap₂ (λ (x : Bool) (y : List Bool). x ∷ y) (odd-of b (valueOf bs)) (ap (bitsOf (length bs)) h ∙ bits-value bs)
+
+-- bits are those of the number that they write
+pub value-bits : (bs : List Bool) (k : ℕ) → length bs ≡ k → bs ≡ bitsOf k (valueOf bs)
+value-bits bs k l = sym (ap (λ (n : ℕ). bitsOf n (valueOf bs)) (sym l) ∙ bits-value bs)
+
+pub value-below : (bs : List Bool) → valueOf bs < 2 ^ length bs
+value-below [] = omega arith
+value-below (b ∷ bs) = omega (arith, one-le b, value-below bs, pow-succ' 2 (length bs))
+
+pub byte-below : (bs : List Bool) → length bs ≡ 8 → valueOf bs < 256
+byte-below bs l = rw l at (value-below bs)
