@@ -1,4 +1,7 @@
-// What can happen on the bus.
+// What can happen on the bus, and each event as a byte.
+ghost use mathlib.Core.Path.{_≡_};
+ghost use Rattle.bus.specs.Codes.{codeOf, eventOf, isEvent};
+use terms::bits;
 
 // A read slot is a slot with the master's bit 1.
 pub enum Event {
@@ -6,4 +9,36 @@ pub enum Event {
     Slot(bool),
     Pulse,
     PowerLoss,
+}
+
+// The byte of an event: a slot is its master bit.
+pub fn code_of(event: Event) -> u8
+    ensures { λ r. ⌜ r ≡ codeOf event ⌝ }
+{
+    match event {
+        Event::Slot(bit) => bits::byte(bit),
+        Event::Reset => 2,
+        Event::Pulse => 3,
+        Event::PowerLoss => 4,
+    }
+}
+
+// A byte is that of an event.
+pub fn is_event(code: u8) -> bool
+    ensures { λ r. ⌜ r ≡ isEvent code ⌝ }
+{
+    code < 5
+}
+
+// The event of a byte; a byte that is that of none counts as a power loss.
+pub fn event_of(code: u8) -> Event
+    ensures { λ r. ⌜ r ≡ eventOf code ⌝ }
+{
+    match code {
+        0 => Event::Slot(false),
+        1 => Event::Slot(true),
+        2 => Event::Reset,
+        3 => Event::Pulse,
+        _ => Event::PowerLoss,
+    }
 }

@@ -20,8 +20,7 @@ use Rattle.publisher.specs.declared.Stage.the-variants.{Running, Done}
 use Rattle.publisher.specs.declared.Publisher.{Publisher}
 use Rattle.publisher.specs.declared.Stepped.{Stepped}
 use Rattle.publisher.specs.Call.{planIn, judgedLast, judgedPresence, judgedOf, stepOf, wantedOf, atStage, goneOn, judgedTurn, turnOf, inRange, turnTold}
-use Rattle.chip.specs.Run.{Chip, next}
-use Rattle.chip_laws.specs.Session.{lineAt}
+use Rattle.chip.specs.Run.{Chip, next, lineAt}
 use Rattle.plan.specs.Plan.{total}
 use Rattle.plan_laws.specs.Plan.{stepEvents, Meets, Fits}
 use Rattle.call_laws.specs.Calls.{answersTo, chipAfter, lastDrawn, GoodAfter, Good}

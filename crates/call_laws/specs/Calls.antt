@@ -14,8 +14,7 @@ use Rattle.publisher.specs.declared.Stage.the-variants.{Running}
 use Rattle.publisher.specs.declared.Publisher.{Publisher}
 use Rattle.publisher.specs.Start.{choiceOf, startState}
 use Rattle.publisher.specs.Call.{planIn, inRange, callAnswer, callState}
-use Rattle.chip.specs.Run.{Chip, next}
-use Rattle.chip_laws.specs.Session.{lineAt}
+use Rattle.chip.specs.Run.{Chip, next, lineAt}
 use Rattle.plan.specs.Plan.{total}
 use Rattle.plan_laws.specs.Plan.{stepEvents, Fits}
 

@@ -2,7 +2,7 @@
 use Prim.Native.Nat.{ℕ}
 use mathlib.Core.Bool.{Bool, true, false, _&&_}
 use mathlib.Core.List.{List}
-use Rattle.terms.specs.Told.{Told, refused, accepted, refusing, judge}
+use Rattle.terms.specs.Told.{Told, refused, accepted, refusing, judge, unlessRefused}
 use Rattle.bus.specs.declared.Event.{Event}
 use Rattle.bus.specs.declared.Event.the-variants.{Reset, Slot, Pulse, PowerLoss}
 use Rattle.rom_function.specs.declared.RomStage.the-variants.{Command as RomCommand}
@@ -20,7 +20,6 @@ use Rattle.chip.specs.declared.event.Stage.the-variants.{Rom, Memory}
 use Rattle.chip.specs.declared.event.State.{State}
 use Rattle.chip.specs.declared.event.Answer.{Answer}
 use Rattle.chip.specs.declared.event.Answer.the-variants.{Refused, Reply}
-use Rattle.chip.specs.Page.{unlessRefused}
 
 -- silent until reset
 abbrev pub silent : Stage

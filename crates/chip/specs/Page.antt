@@ -3,19 +3,9 @@ use Prim.Native.Nat.{ℕ}
 use mathlib.Core.List.{List, []}
 use lib.ListN.{length}
 use lib.Dec.{eqb}
-use Rattle.terms.specs.Told.{Told, refused, accepted, refusing, judge}
+use Rattle.terms.specs.Told.{Told, accepted, judge, Done, done, unlessRefused}
 use Rattle.memory.specs.Layout.{isImage, isPage}
 use Rattle.memory.specs.Image.{pageBytes}
-use Rattle.chip.specs.declared.page.Judged.{Judged}
-use Rattle.chip.specs.declared.page.Judged.the-variants.{Refused, Accepted}
-
--- nothing more than that it is accepted
-pub data Done : Type 0 where
-  done : Done
-
-abbrev pub judgedTold : Judged → Told Done
-judgedTold (Refused r) = refusing r
-judgedTold Accepted = accepted done
 
 -- what is asked of page p: 1, 3, or the answer
 abbrev pub onPage : {A : Type 0} → ℕ → List ℕ → ℕ → Told A → Told A
@@ -23,11 +13,6 @@ onPage n img p answer = judge (isImage n img) 1 (judge (isPage n p) 3 answer)
 
 unfoldable pub pageAnswer : ℕ → List ℕ → ℕ → Told Done
 pageAnswer n img p = onPage n img p (accepted done)
-
--- a buffer: the new bytes where the answer is not refused, and else the old ones
-abbrev pub unlessRefused : {A : Type 0} → Told A → List ℕ → List ℕ → List ℕ
-unlessRefused (accepted a) new old = new
-unlessRefused (refused k vs) new old = old
 
 unfoldable pub pagePart : ℕ → List ℕ → ℕ → List ℕ
 pagePart n img p = unlessRefused (pageAnswer n img p) (pageBytes img p) []

@@ -1,16 +1,25 @@
 -- Several events one after the other, each on the state and the image that the last one left.
 use Prim.Native.Nat.{ℕ}
-use mathlib.Core.Bool.{Bool}
-use mathlib.Core.List.{List, [], _∷_}
+use mathlib.Core.Bool.{Bool, true, _&&_}
+use mathlib.Core.List.{List, [], _∷_, map}
+use lib.Dec.{eqb}
+use lib.ListN.{length}
+use Rattle.terms.specs.Bits.{one}
+use Rattle.terms.specs.Told.{Told, refused, accepted, judge, Done, done, unlessRefused}
 use Rattle.bus.specs.declared.Event.{Event}
-use Rattle.terms.specs.Told.{Told}
+use Rattle.bus.specs.Codes.{isEvent, eventOf}
+use Rattle.memory.specs.Layout.{isImage}
+use Rattle.chip.specs.declared.event.Stage.{Stage}
 use Rattle.chip.specs.declared.event.State.{State}
-use Rattle.chip.specs.Event.{eventAnswer, eventState, eventImage}
+use Rattle.chip.specs.Event.{inRange, eventAnswer, eventState, eventImage}
 
 -- a chip with its memory
 pub record Chip : Type 0 where
   pub state : State
   pub image : List ℕ
+
+abbrev pub chipWith : Stage → List ℕ → List ℕ → Chip
+chipWith stage number img = record { state = record { stage = stage; number = number }; image = img }
 
 -- the chip after an event, and what the event draws
 abbrev pub next : ℕ → Chip → Event → Chip
@@ -18,6 +27,14 @@ next n c e = record { state = eventState n (c .state) e (c .image); image = even
 
 abbrev pub draws : ℕ → Chip → Event → Told Bool
 draws n c e = eventAnswer n (c .state) e (c .image)
+
+-- the line that an event draws; a refused event draws none, and the line is then 1
+abbrev pub lineOf : Told Bool → Bool
+lineOf (accepted reply) = reply
+lineOf (refused k values) = true
+
+abbrev pub lineAt : ℕ → Chip → Event → Bool
+lineAt n c e = lineOf (draws n c e)
 
 -- the chip after events, and what they draw
 unfoldable pub run : ℕ → Chip → List Event → Chip
@@ -27,3 +44,39 @@ run n c (e ∷ es) = run n (next n c e) es
 unfoldable pub answers : ℕ → Chip → List Event → List (Told Bool)
 answers n c [] = []
 answers n c (e ∷ es) = draws n c e ∷ answers n (next n c e) es
+
+-- ---- events and replies as bytes
+
+-- the bytes are those of events
+unfoldable pub areEvents : List ℕ → Bool
+areEvents [] = true
+areEvents (c ∷ cs) = isEvent c && areEvents cs
+
+abbrev pub eventsAt : List ℕ → List Event
+eventsAt codes = map eventOf codes
+
+-- the line after each event
+unfoldable pub replyBytes : ℕ → Chip → List ℕ → List ℕ
+replyBytes n c codes = map (λ (a : Told Bool). one (lineOf a)) (answers n c (eventsAt codes))
+
+-- 1; 2 for the state and for a byte that is that of no event; 10 for a buffer that has not a byte for each event
+unfoldable pub runAnswer : ℕ → State → List ℕ → List ℕ → List ℕ → Told Done
+runAnswer n s codes img replies =
+    judge (isImage n img) 1
+    (judge (inRange n (s .stage) && areEvents codes) 2
+    (judge (eqb (length replies) (length codes)) 10 (accepted done)))
+
+abbrev pub chipUnless : Told Done → Chip → Chip → Chip
+chipUnless (accepted d) new old = new
+chipUnless (refused k values) new old = old
+
+-- the chip after the events, each as the entry for one event has it
+unfoldable pub ranChip : ℕ → State → List ℕ → List ℕ → List ℕ → Chip
+ranChip n s codes img replies =
+    chipUnless (runAnswer n s codes img replies)
+    (run n (record { state = s; image = img }) (eventsAt codes))
+    (record { state = s; image = img })
+
+unfoldable pub ranReplies : ℕ → State → List ℕ → List ℕ → List ℕ → List ℕ
+ranReplies n s codes img replies =
+    unlessRefused (runAnswer n s codes img replies) (replyBytes n (record { state = s; image = img }) codes) replies

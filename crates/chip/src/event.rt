@@ -1,6 +1,11 @@
 // The chip, driven by bus events.
 ghost use mathlib.Core.Path.{_≡_};
-ghost use Rattle.memory.specs.Layout.{pageCount};
+ghost use mathlib.Core.Bool.{true};
+ghost use Rattle.terms.specs.Bits.{one};
+ghost use Rattle.terms.specs.Told.{judgedTold};
+ghost use Rattle.memory.specs.Layout.{pageCount, isImage};
+ghost use lib.ListN.{length, set};
+ghost use Rattle.chip.specs.Run.{areEvents, replyBytes, eventsAt, chipWith, run, runAnswer, ranChip, ranReplies};
 ghost use Rattle.chip.specs.Event.{powerUp, leading, stageSlot, stageBit, stagePulse, pulseImageOf, inRange, replyOf, imageAfter, stageAfter, eventTold, eventAnswer, eventState, eventImage};
 use bus::Event;
 use memory::layout;
@@ -13,6 +18,7 @@ use rom_function::RomOutcome;
 use rom_function::RomStage;
 use terms::address::Page;
 use terms::bits;
+use terms::refusal::Judged;
 use terms::refusal::Refusal;
 
 // Where the chip stands: in a ROM function, or in a memory function. A silent chip counts as the latter.
@@ -144,6 +150,94 @@ pub fn event(state: State, event: Event, image: &mut [u8]) -> Stepped
     let next = advance(Page(layout::DS2505), stage, event, number, image);
     Stepped {
         answer: Answer::Reply(bit),
+        state: State {
+            stage: next,
+            number,
+        },
+    }
+}
+
+// ---- several events, a byte each
+
+pub struct Ran {
+    pub answer: Judged,
+    pub state: State,
+}
+
+// All bytes are those of events.
+fn are_events(codes: &[u8]) -> bool
+    ensures { λ r. ⌜ r ≡ areEvents (now (codes .entry)) ⌝ }
+{
+    for i in 0..codes.len() {
+        if !bus::is_event(codes[i]) {
+            return false;
+        }
+    }
+    true
+}
+
+// The events one after the other. A stage within its ranges stays within them, so that nothing is judged again.
+fn run_within(
+    start: Stage,
+    number: [u8; 8],
+    codes: &[u8],
+    image: &mut [u8],
+    replies: &mut [u8],
+) -> Stage
+    requires { ⌜ isImage 64 (now image) ≡ true ⌝ }
+    requires { ⌜ inRange 64 start ≡ true ⌝ }
+    requires { ⌜ length (now replies) ≡ length (now codes) ⌝ }
+    ensures chip { λ r. ⌜ chipWith r number (now (image .exit)) ≡ run 64 (chipWith start number (now (image .entry))) (eventsAt (now (codes .entry))) ⌝ }
+    ensures replies { λ r. ⌜ now (replies .exit) ≡ replyBytes 64 (chipWith start number (now (image .entry))) (now (codes .entry)) ⌝ }
+{
+    let mut stage = start;
+    let mut i = 0;
+    while i < codes.len() {
+        let e = bus::event_of(codes[i]);
+        replies[i] = bits::byte(reply(stage, e, number));
+        stage = advance(Page(layout::DS2505), stage, e, number, image);
+        i += 1;
+    }
+    stage
+}
+
+// So many events, a byte each (bus::event_of), with a byte for each reply. Refused: 1, 2, 10; state, image and replies are then untouched.
+// The state and the image are judged once: what it does is what the events one by one do.
+pub fn run(state: State, codes: &[u8], image: &mut [u8], replies: &mut [u8]) -> Ran
+    ensures answer { λ r. ⌜ judgedTold (r .answer) ≡ runAnswer 64 state (now (codes .entry)) (now (image .entry)) (now (replies .entry)) ⌝ }
+    ensures state { λ r. ⌜ r .state ≡ ranChip 64 state (now (codes .entry)) (now (image .entry)) (now (replies .entry)) .state ⌝ }
+    ensures image { λ r. ⌜ now (image .exit) ≡ ranChip 64 state (now (codes .entry)) (now (image .entry)) (now (replies .entry)) .image ⌝ }
+    ensures replies { λ r. ⌜ now (replies .exit) ≡ ranReplies 64 state (now (codes .entry)) (now (image .entry)) (now (replies .entry)) ⌝ }
+{
+    let stage = state.stage;
+    let number = state.number;
+    if !layout::is_image(image, Page(layout::DS2505)) {
+        return Ran {
+            answer: Judged::Refused(Refusal::ImageLength),
+            state,
+        };
+    }
+    if !in_range(Page(layout::DS2505), stage) {
+        return Ran {
+            answer: Judged::Refused(Refusal::StateRange),
+            state,
+        };
+    }
+    if !are_events(codes) {
+        return Ran {
+            answer: Judged::Refused(Refusal::StateRange),
+            state,
+        };
+    }
+    if replies.len() != codes.len() {
+        return Ran {
+            answer: Judged::Refused(Refusal::BufferLength),
+            state,
+        };
+    }
+    let next = run_within(stage, number, codes, image, replies);
+    Ran {
+        answer: Judged::Accepted,
         state: State {
             stage: next,
             number,

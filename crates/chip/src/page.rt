@@ -1,14 +1,11 @@
 // A page's own 32 bytes.
 ghost use mathlib.Core.Path.{_≡_};
-ghost use Rattle.chip.specs.Page.{judgedTold, pageAnswer, pagePart, copyAnswer, copyBuffer};
+ghost use Rattle.terms.specs.Told.{judgedTold};
+ghost use Rattle.chip.specs.Page.{pageAnswer, pagePart, copyAnswer, copyBuffer};
 use memory::layout;
 use terms::address::Page;
+use terms::refusal::Judged;
 use terms::refusal::Refusal;
-
-pub enum Judged {
-    Refused(Refusal),
-    Accepted,
-}
 
 // Whether an image has a page. Refused: 1, 3.
 pub fn judge(image: &[u8], page: Page) -> Judged

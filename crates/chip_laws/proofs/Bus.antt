@@ -6,8 +6,8 @@ use mathlib.Core.Path.{_≡_, refl, ap, ap₂, _∙_}
 use native.Mathlib.Omega.{arith}
 use Rattle.terms.specs.Told.{accepted}
 use Rattle.bus.specs.declared.Event.{Event}
-use Rattle.chip.specs.Run.{Chip, next, draws, run, answers}
-use Rattle.chip_laws.specs.Session.{lineOf, lineAt, Goes}
+use Rattle.chip.specs.Run.{Chip, next, draws, run, answers, lineOf, lineAt}
+use Rattle.chip_laws.specs.Session.{Goes}
 use Rattle.master.specs.Joint as joint
 use Rattle.master.proofs.Joins.{Hears}
 

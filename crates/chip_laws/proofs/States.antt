@@ -5,7 +5,7 @@ use mathlib.Core.Bool.{Bool, true, false, _&&_}
 use mathlib.Core.List.{List, [], _∷_}
 use native.Mathlib.Omega.{arith}
 use lib.ListN.{length}
-use Rattle.terms.specs.Told.{Told, refused, accepted}
+use Rattle.terms.specs.Told.{Told, refused, accepted, unlessRefused}
 use Rattle.terms.specs.declared.address.Target.{Target}
 use Rattle.bus.specs.declared.Event.{Event}
 use Rattle.bus.specs.declared.Event.the-variants.{Reset, Slot, Pulse, PowerLoss}
@@ -24,8 +24,8 @@ use Rattle.range_laws.proofs.Keeps.{range-laws}
 use Rattle.chip.specs.declared.event.Stage.{Stage}
 use Rattle.chip.specs.declared.event.Stage.the-variants.{Rom, Memory}
 use Rattle.chip.specs.declared.event.State.{State}
-use Rattle.chip.specs.Page.{unlessRefused}
 use Rattle.chip.specs.Event.{silent, powerUp, leading, stageSlot, stageBit, pulseImageOf, stagePulse, inRange, replyOf, imageAfter, stageAfter, stateUnless, eventState, eventImage}
+use Rattle.chip.proofs.Kept.{stage-kept, image-length}
 use Rattle.chip.specs.Run.{Chip, next, draws}
 use Rattle.chip_laws.specs.Session.{Ready, _at_, Goes}
 use Rattle.chip_laws.specs.Laws.{isArmed, isPulse, isReset, silentReply, StateLaws}
@@ -38,49 +38,11 @@ and-true false = refl
 -- ---- ranges
 
 module _ (n : ℕ) (whole : n % 8 ≡ 0) where
-  leading-kept : (o : RomOutcome) → ((s : RomStage) → o ≡ Stays s → romInRange s ≡ true) → inRange n (leading o) ≡ true
-  unfolding leading inRange receiving memoryInRange receiveInRange incomingInRange
-  leading-kept (Stays s) h = h s refl
-  leading-kept Selected h = refl
-  leading-kept Deselected h = refl
-
-  slot-kept : (s : Stage) (bit : Bool) (number img : List ℕ) → inRange n s ≡ true → inRange n (stageSlot n s bit number img) ≡ true
-  unfolding stageSlot inRange
-  slot-kept (Rom r) bit number img h = leading-kept (romSlot r bit number) (λ s e. rom-laws .kept r s bit number h e)
-  slot-kept (Memory m) bit number img h = range-laws n whole .slot m bit img h
-
-  pulse-kept : (s : Stage) (img : List ℕ) → inRange n s ≡ true → inRange n (stagePulse n s img) ≡ true
-  unfolding stagePulse inRange
-  pulse-kept (Rom r) img h = h
-  pulse-kept (Memory m) img h = range-laws n whole .pulse m img h
-
-  stage-kept : (s : Stage) (e : Event) (number img : List ℕ) → inRange n s ≡ true → inRange n (stageAfter n s e number img) ≡ true
-  unfolding stageAfter
-  stage-kept s Reset number img h = unfold inRange romInRange in refl
-  stage-kept s (Slot bit) number img h = slot-kept s bit number img h
-  stage-kept s Pulse number img h = pulse-kept s img h
-  stage-kept s PowerLoss number img h = unfold inRange memoryInRange in refl
-
-  pulse-length : (s : Stage) (img : List ℕ) → length (pulseImageOf n s img) ≡ length img
-  unfolding pulseImageOf pulseImage
-  pulse-length (Rom r) img = refl
-  pulse-length (Memory Silent) img = refl
-  pulse-length (Memory (Receive i k register crc)) img = refl
-  pulse-length (Memory (Send o left v crc)) img = refl
-  pulse-length (Memory (Armed t byte)) img = programmed-length n img t byte
-
-  image-length : (s : Stage) (e : Event) (img : List ℕ) → length (imageAfter n s e img) ≡ length img
-  unfolding imageAfter
-  image-length s Reset img = refl
-  image-length s (Slot bit) img = refl
-  image-length s Pulse img = pulse-length s img
-  image-length s PowerLoss img = refl
-
   pub ready-after : (c : Chip) (e : Event) (ok : Ready n c) → Ready n (after n c ok e)
   ready-after c e ok =
       record {
-        sized = image-length (c .state .stage) e (c .image) ∙ ok .sized;
-        ranged = stage-kept (c .state .stage) e (c .state .number) (imageAfter n (c .state .stage) e (c .image)) (ok .ranged);
+        sized = image-length n (c .state .stage) e (c .image) ∙ ok .sized;
+        ranged = stage-kept n whole (c .state .stage) e (c .state .number) (imageAfter n (c .state .stage) e (c .image)) (ok .ranged);
         eight = ok .eight;
       }
 

@@ -40,14 +40,6 @@ infixl 25 _holding_
 abbrev pub _holding_ : Chip → List ℕ → Chip
 c holding img = record { state = c .state; image = img }
 
--- the line that an event draws; a refused event draws none, and the line is then 1
-abbrev pub lineOf : Told Bool → Bool
-lineOf (accepted reply) = reply
-lineOf (refused k values) = true
-
-abbrev pub lineAt : ℕ → Chip → Event → Bool
-lineAt n c e = lineOf (draws n c e)
-
 -- numbers that are bytes
 abbrev pub Bytes : List ℕ → Type 0
 Bytes l = (i : ℕ) → getD l i 0 < 256

@@ -20,7 +20,8 @@ use Rattle.number_read.specs.NumberRead.{turned, stopped, presence, afterComman
 use Rattle.chip_laws.specs.Session.{Bytes}
 use Rattle.number_laws.specs.Laws.{answersTo, Agreed}
 use Rattle.number_laws.proofs.Ranges.{Fit, shown, starts, fit-step, call-is, told-is}
-use Rattle.terms.proofs.Filled.{filled, filled-is}
+use Rattle.terms.specs.Filled.{filled}
+use Rattle.terms.proofs.Filled.{filled-is}
 use Rattle.number_laws.proofs.Values.{Byte, byte-of}
 use Rattle.number_laws.proofs.Course.{sent, _having_, opened}
 

@@ -20,7 +20,8 @@ use Rattle.number_read.specs.declared.NumberRead.{NumberRead}
 use Rattle.number_read.specs.NumberRead.{turned, stopped, presence, afterCommand, judgedFamily, judged, storedAt, stored, byteIn, bitIn, takenAt, taken, answerOf}
 use Rattle.chip_laws.specs.Session.{Bytes}
 use Rattle.number_laws.proofs.Ranges.{shown}
-use Rattle.terms.proofs.Filled.{filled, filled-is}
+use Rattle.terms.specs.Filled.{filled}
+use Rattle.terms.proofs.Filled.{filled-is}
 
 -- what is told where an event is sent
 abbrev pub sent : Event → Told Next

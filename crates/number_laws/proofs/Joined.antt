@@ -19,8 +19,8 @@ use Rattle.number_read.specs.declared.Phase.the-variants.{Closing, Done, Stoppe
 use Rattle.number_read.specs.declared.NumberRead.{NumberRead}
 use Rattle.number_read.specs.NumberRead.{turned, stopped, crcAgrees, isFamily, judgedFamily, judged, closed, takenAt, taken, answerOf, begun, phaseInRange, numberAnswer, numberState}
 use Rattle.chip.specs.Event.{awaitingMemory}
-use Rattle.chip.specs.Run.{Chip, next}
-use Rattle.chip_laws.specs.Session.{Ready, Bytes, lineAt, _at_, read}
+use Rattle.chip.specs.Run.{Chip, next, lineAt}
+use Rattle.chip_laws.specs.Session.{Ready, Bytes, _at_, read}
 use Rattle.chip_laws.specs.Session as session
 use Rattle.chip_laws.proofs.Runs.{_then_}
 use Rattle.chip_laws.proofs.Bus.{bus-hears}

@@ -14,8 +14,8 @@ use Rattle.master.specs.Joint.{Joined}
 use Rattle.master.specs.Joint as joint
 use Rattle.number_read.specs.declared.NumberRead.{NumberRead}
 use Rattle.number_read.specs.NumberRead.{crcAgrees, isFamily, inRange, begun, numberAnswer, numberState}
-use Rattle.chip.specs.Run.{Chip, next}
-use Rattle.chip_laws.specs.Session.{Ready, Bytes, lineAt}
+use Rattle.chip.specs.Run.{Chip, next, lineAt}
+use Rattle.chip_laws.specs.Session.{Ready, Bytes}
 
 -- the answers to calls, each with its reply, from the start on; and the state after them
 abbrev pub answersTo : NumberRead → List Bool → List (Told Next)

@@ -25,7 +25,8 @@ use Rattle.page_read.specs.declared.Phase.the-variants.{Presence, Command, Rece
 use Rattle.page_read.specs.declared.PageRead.{PageRead}
 use Rattle.page_read.specs.PageRead.{addressLow, addressHigh, commandByte, commandBit, redirectionCrc, dataCrc, collect, turned, stopped, presence, afterCommand, hopped, onward, followed, judged, nextData, storedAt, stored, dataJudged, partIn, bitIn, closed, takenAt, answerOf, finishes}
 use Rattle.chip_laws.specs.Session.{Bytes}
-use Rattle.terms.proofs.Filled.{filled, filled-is}
+use Rattle.terms.specs.Filled.{filled}
+use Rattle.terms.proofs.Filled.{filled-is}
 use Rattle.chip_laws.proofs.Slots.{bits-length}
 use Rattle.page_laws.specs.Heard.{visitEvents, visitReplies, pageEvents, pageReplies, Heard, at-final, at-outside, at-loop, at-next}
 use Rattle.page_laws.specs.Laws.{Held, verdictTold, given}

@@ -15,8 +15,8 @@ use Rattle.master.specs.Next.{Next, outOf}
 use Rattle.master.specs.Joint.{Out, quiet, Joined, shown}
 use Rattle.master.proofs.Joins as joins
 use Rattle.page_read.specs.PageRead.{redirectionCrc, dataCrc, begun}
-use Rattle.chip.specs.Run.{Chip, next}
-use Rattle.chip_laws.specs.Session.{Ready, Bytes, _at_, lineAt}
+use Rattle.chip.specs.Run.{Chip, next, lineAt}
+use Rattle.chip_laws.specs.Session.{Ready, Bytes, _at_}
 use Rattle.chip_laws.proofs.Bus.{bus-hears}
 use Rattle.chip_laws.proofs.Slots.{bits-length, bytes-length}
 use Rattle.page_read.specs.declared.Phase.the-variants.{Presence}

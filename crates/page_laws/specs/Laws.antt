@@ -15,8 +15,8 @@ use Rattle.master.specs.Joint.{Joined}
 use Rattle.master.specs.Joint as joint
 use Rattle.page_read.specs.declared.PageRead.{PageRead}
 use Rattle.page_read.specs.PageRead.{inRange, startState, readAnswer, readState, readBuffer}
-use Rattle.chip.specs.Run.{Chip, next}
-use Rattle.chip_laws.specs.Session.{Ready, Bytes, lineAt}
+use Rattle.chip.specs.Run.{Chip, next, lineAt}
+use Rattle.chip_laws.specs.Session.{Ready, Bytes}
 use Rattle.page_laws.specs.Heard.{Heard, Sent, visitEvents, pageEvents}
 
 -- ---- calls one after the other

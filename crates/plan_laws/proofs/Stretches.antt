@@ -12,8 +12,8 @@ use Rattle.bus.specs.Slots.{slots, reading}
 use Rattle.plan.specs.declared.Wanted.{Wanted}
 use Rattle.plan.specs.declared.Step.{Step}
 use Rattle.plan.specs.Plan.{step, freely, readSteps}
-use Rattle.chip.specs.Run.{Chip, next, draws, run, answers}
-use Rattle.chip_laws.specs.Session.{Ready, Goes, lineOf}
+use Rattle.chip.specs.Run.{Chip, next, draws, run, answers, lineOf}
+use Rattle.chip_laws.specs.Session.{Ready, Goes}
 use Rattle.chip_laws.specs.Laws.{isPulse, isArmed}
 use Rattle.chip_laws.proofs.Runs.{run-append}
 use Rattle.chip_laws.proofs.States.{keeps, image-kept}

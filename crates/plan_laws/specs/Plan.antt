@@ -17,8 +17,8 @@ use Rattle.plan.specs.declared.Step.{Step}
 use Rattle.plan.specs.Plan.{planOf, total}
 use Rattle.publisher.specs.declared.Choice.the-variants.{Accepted}
 use Rattle.publisher.specs.Start.{choiceOf, bitmapByte}
-use Rattle.chip.specs.Run.{Chip, next, run}
-use Rattle.chip_laws.specs.Session.{Ready, Bytes, lineAt}
+use Rattle.chip.specs.Run.{Chip, next, run, lineAt}
+use Rattle.chip_laws.specs.Session.{Ready, Bytes}
 
 -- the events of a plan
 unfoldable pub stepEvents : List Step → List Event

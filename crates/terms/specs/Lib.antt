@@ -1,3 +1,4 @@
 pub mod Bits
+pub mod Filled
 pub mod Refusal
 pub mod Told

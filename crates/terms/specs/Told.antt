@@ -4,6 +4,8 @@ use Prim.Native.Nat.{ℕ}
 use mathlib.Core.Bool.{Bool, true, false}
 use mathlib.Core.List.{List, []}
 use Rattle.terms.specs.declared.refusal.Refusal.{Refusal}
+use Rattle.terms.specs.declared.refusal.Judged.{Judged}
+use Rattle.terms.specs.declared.refusal.Judged.the-variants.{Refused, Accepted}
 use Rattle.terms.specs.Refusal.{numberOf, valuesOf}
 
 pub data Told (A : Type 0) : Type 0 where
@@ -18,3 +20,16 @@ refusing r = refused (numberOf r) (valuesOf r)
 abbrev pub judge : {A : Type 0} → Bool → ℕ → Told A → Told A
 judge true number rest = rest
 judge false number rest = refused number []
+
+-- nothing more than that it is accepted
+pub data Done : Type 0 where
+  done : Done
+
+abbrev pub judgedTold : Judged → Told Done
+judgedTold (Refused r) = refusing r
+judgedTold Accepted = accepted done
+
+-- a buffer: the new bytes where the answer is not refused, and else the old ones
+abbrev pub unlessRefused : {A : Type 0} → Told A → List ℕ → List ℕ → List ℕ
+unlessRefused (accepted a) new old = new
+unlessRefused (refused k vs) new old = old

@@ -2,7 +2,14 @@
 ghost use mathlib.Core.Bool.{_&&_};
 ghost use mathlib.Core.Path.{_≡_};
 ghost use Prim.Native.Nat.{_%_};
-ghost use Rattle.terms.specs.Bits.{odd, bitAt, shiftIn, same};
+ghost use Rattle.terms.specs.Bits.{one, odd, bitAt, shiftIn, same};
+
+// A bit as a byte.
+pub fn byte(bit: bool) -> u8
+    ensures { λ r. ⌜ r ≡ one bit ⌝ }
+{
+    if bit { 1 } else { 0 }
+}
 
 // The lowest bit of a 16-bit register.
 pub fn low(x: u16) -> bool

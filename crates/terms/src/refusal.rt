@@ -20,6 +20,12 @@ pub enum Refusal {
     Family,
 }
 
+// Whether an input is accepted, where nothing more is told.
+pub enum Judged {
+    Refused(Refusal),
+    Accepted,
+}
+
 // The number of a refusal.
 pub fn number(refusal: Refusal) -> u8
     ensures { λ r. ⌜ r ≡ numberOf refusal ⌝ }

@@ -14,8 +14,7 @@ use Rattle.publisher.specs.declared.Choice.the-variants.{Refused, Accepted}
 use Rattle.publisher.specs.declared.Publisher.{Publisher}
 use Rattle.publisher.specs.Start.{choiceOf, ready}
 use Rattle.chip.specs.Event.{powerUp}
-use Rattle.chip.specs.Run.{Chip, next}
-use Rattle.chip_laws.specs.Session.{lineAt}
+use Rattle.chip.specs.Run.{Chip, next, lineAt}
 use Rattle.plan_laws.specs.Plan.{shown}
 use Rattle.call_laws.specs.Calls.{called, told, chipAfter, lastDrawn}
 use Rattle.update.specs.declared.Joined.{Joined}

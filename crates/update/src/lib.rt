@@ -3,7 +3,7 @@ ghost use mathlib.Core.Path.{_≡_};
 ghost use Rattle.bus.specs.declared.Event.{Event};
 ghost use Rattle.publisher.specs.Call.{turnTold};
 ghost use Rattle.chip.specs.Event.{eventTold};
-ghost use Rattle.chip_laws.specs.Session.{lineOf};
+ghost use Rattle.chip.specs.Run.{lineOf};
 ghost use Rattle.update.specs.Update.{reached, reachedImage, handedOn, handedImage, turned, turnedImage, runFor, opened, updateTold, updateAnswer, updatedImage, ReadsAs};
 use bus::Event;
 use chip::event::State;
