@@ -18,5 +18,8 @@ pub mod page_read;
 pub mod publisher;
 pub mod random;
 pub mod refusal;
+pub mod samples;
 pub mod sheet;
+pub mod stored;
+pub mod tray;
 pub mod walk;

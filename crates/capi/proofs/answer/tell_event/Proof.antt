@@ -1,0 +1,20 @@
+use Prim.Native.Nat.{ℕ}
+use mathlib.Core.Path.{_∙_, ap}
+use mathlib.Core.List.{[], _∷_}
+use Rattle.memory.specs.Page.{copied}
+use borrow.Author.Needs.{needs}
+use Rattle.capi.proofs.answer.tell_event.Statement.{statement}
+use Rattle.capi.proofs.answer.tell_event.Tie as tie
+
+returns : tie.Need-returns
+returns c = c .before .before .copy .ensures ∙ ap (λ (x : ℕ). copied (x ∷ []) (c .before .before .before .before .before .before .before .args .answer .now)) (c .before .before .before .before .before .code-of .ensures)
+
+pub tell-event-spec : {M : Type 1} → statement M
+tell-event-spec =
+    tie.close
+    (tie.spec
+    (λ c κs. search needs)
+    (λ c. search needs)
+    (λ c κs. search needs)
+    (λ c. search needs)
+    returns)

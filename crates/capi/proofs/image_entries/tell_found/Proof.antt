@@ -1,0 +1,25 @@
+use Rattle.capi.specs.Answers.{answered}
+use borrow.Author.Needs.{needs}
+use Rattle.capi.proofs.image_entries.tell_found.Statement.{statement}
+use Rattle.capi.proofs.image_entries.tell_found.Tie as tie
+
+returns : tie.Need-returns
+unfolding answered
+returns c = (simp (c .before .before .before .before .before .found .given .1, c .before .before .refuse .ensures .0), simp (c .before .before .before .before .before .found .given .1, c .before .before .refuse .ensures .1))
+
+returns-2 : tie.Need-returns-2
+unfolding answered
+returns-2 c = (simp (c .before .before .before .before .before .found2 .given .1), simp (c .before .before .before .before .before .found2 .given .1) (c .before .before .tell-one .ensures))
+
+pub tell-found-spec : {M : Type 1} → statement M
+tell-found-spec =
+    tie.close
+    (tie.spec
+    (λ c. search needs)
+    (λ c κs. search needs)
+    (λ c. search needs)
+    (λ c κs. search needs)
+    (λ c. search needs)
+    returns
+    (λ c. search needs)
+    returns-2)

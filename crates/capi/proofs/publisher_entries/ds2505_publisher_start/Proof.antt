@@ -1,0 +1,34 @@
+use mathlib.Core.Path.{_∙_, sym}
+use borrow.Author.Tests.{eq-eqb, ne-eqb, not-false, not-true}
+use Rattle.capi.specs.Publisher.{publisherStartState, publisherStarted}
+use Rattle.capi.specs.Answers.{answered}
+use borrow.Author.Needs.{needs}
+use Rattle.capi.proofs.publisher_entries.ds2505_publisher_start.Statement.{statement}
+use Rattle.capi.proofs.publisher_entries.ds2505_publisher_start.Tie as tie
+
+returns : tie.Need-returns
+unfolding answered publisherStartState publisherStarted
+returns c = (simp (sym (c .before .is-answer .ensures) ∙ not-true (c .before .is-answer .result) (c .if1 .taken)), (simp (sym (c .before .is-answer .ensures) ∙ not-true (c .before .is-answer .result) (c .if1 .taken)), simp (sym (c .before .is-answer .ensures) ∙ not-true (c .before .is-answer .result) (c .if1 .taken))))
+
+returns-2 : tie.Need-returns-2
+unfolding answered publisherStartState publisherStarted
+returns-2 c = (simp (sym (c .before .before .is-answer .ensures) ∙ not-false (c .before .before .is-answer .result) (c .before .if1 .left), ne-eqb _ _ (c .if2 .taken)), (simp (sym (c .before .before .is-answer .ensures) ∙ not-false (c .before .before .is-answer .result) (c .before .if1 .left), ne-eqb _ _ (c .if2 .taken)), simp (sym (c .before .before .is-answer .ensures) ∙ not-false (c .before .before .is-answer .result) (c .before .if1 .left), ne-eqb _ _ (c .if2 .taken))))
+
+returns-3 : tie.Need-returns-3
+unfolding answered publisherStartState publisherStarted
+returns-3 c = (simp (sym (c .before .before .before .before .before .before .before .before .before .before .is-answer .ensures) ∙ not-false (c .before .before .before .before .before .before .before .before .before .before .is-answer .result) (c .before .before .before .before .before .before .before .before .before .if1 .left), eq-eqb _ _ (c .before .before .before .before .before .before .before .before .if2 .left)) (c .before .before .before .before .keep-started .ensures .0 ∙ simp (c .before .before .before .before .keep-started .ensures .1 .0, c .before .before .before .before .keep-started .ensures .1 .1, c .before .before .before .before .before .before .before .start .ensures .0, c .before .before .before .before .before .before .before .start .ensures .1)), (simp (sym (c .before .before .before .before .before .before .before .before .before .before .is-answer .ensures) ∙ not-false (c .before .before .before .before .before .before .before .before .before .before .is-answer .result) (c .before .before .before .before .before .before .before .before .before .if1 .left), eq-eqb _ _ (c .before .before .before .before .before .before .before .before .if2 .left)) (c .before .before .before .before .keep-started .ensures .1 .0 ∙ simp (c .before .before .before .before .keep-started .ensures .1 .1, c .before .before .before .before .before .before .before .start .ensures .0, c .before .before .before .before .before .before .before .start .ensures .1)), simp (sym (c .before .before .before .before .before .before .before .before .before .before .is-answer .ensures) ∙ not-false (c .before .before .before .before .before .before .before .before .before .before .is-answer .result) (c .before .before .before .before .before .before .before .before .before .if1 .left), eq-eqb _ _ (c .before .before .before .before .before .before .before .before .if2 .left)) (c .before .before .before .before .keep-started .ensures .1 .1 ∙ simp (c .before .before .before .before .keep-started .ensures .1 .0, c .before .before .before .before .before .before .before .start .ensures .0, c .before .before .before .before .before .before .before .start .ensures .1))))
+
+pub ds2505-publisher-start-spec : {M : Type 1} → statement M
+ds2505-publisher-start-spec =
+    tie.close
+    (tie.spec
+    (λ c κs. search needs)
+    (λ c. search needs)
+    returns
+    (λ c. search needs)
+    returns-2
+    (λ c κs. search needs)
+    (λ c κs. search needs)
+    (λ c. search needs)
+    (λ c. search needs)
+    returns-3)

@@ -1,0 +1,28 @@
+use mathlib.Core.Path.{_∙_, sym}
+use borrow.Author.Tests.{not-false, not-true}
+use Rattle.capi.specs.Sheet.{listText, listValues}
+use Rattle.capi.specs.Answers.{answered}
+use borrow.Author.Needs.{needs}
+use Rattle.capi.proofs.sheet_entries.ds2505_list.Statement.{statement}
+use Rattle.capi.proofs.sheet_entries.ds2505_list.Tie as tie
+
+returns : tie.Need-returns
+unfolding answered listText listValues
+returns c = (simp (sym (c .before .is-answer .ensures) ∙ not-true (c .before .is-answer .result) (c .if1 .taken)), (simp (sym (c .before .is-answer .ensures) ∙ not-true (c .before .is-answer .result) (c .if1 .taken)), simp (sym (c .before .is-answer .ensures) ∙ not-true (c .before .is-answer .result) (c .if1 .taken))))
+
+returns-2 : tie.Need-returns-2
+unfolding answered listText listValues
+returns-2 c = (simp (sym (c .before .before .before .before .before .before .before .before .before .is-answer .ensures) ∙ not-false (c .before .before .before .before .before .before .before .before .before .is-answer .result) (c .before .before .before .before .before .before .before .before .if1 .left)) (c .before .before .tell-listed .ensures .0 ∙ simp (c .before .before .before .before .before .before .write .ensures .0, c .before .before .before .before .before .before .write .ensures .1)), (simp (sym (c .before .before .before .before .before .before .before .before .before .is-answer .ensures) ∙ not-false (c .before .before .before .before .before .before .before .before .before .is-answer .result) (c .before .before .before .before .before .before .before .before .if1 .left), c .before .before .tell-listed .ensures .1, c .before .before .before .before .before .before .write .ensures .0, c .before .before .before .before .before .before .write .ensures .1, c .before .before .before .before .before .before .before .before .before .is-answer .ensures), simp (sym (c .before .before .before .before .before .before .before .before .before .is-answer .ensures) ∙ not-false (c .before .before .before .before .before .before .before .before .before .is-answer .result) (c .before .before .before .before .before .before .before .before .if1 .left), c .before .before .before .before .before .before .write .ensures .0, c .before .before .before .before .before .before .write .ensures .1, c .before .before .before .before .before .before .before .before .before .is-answer .ensures)))
+
+pub ds2505-list-spec : {M : Type 1} → statement M
+ds2505-list-spec =
+    tie.close
+    (tie.spec
+    (λ c κs. search needs)
+    (λ c. search needs)
+    returns
+    (λ c κs. search needs)
+    (λ c κs. search needs)
+    (λ c. search needs)
+    (λ c. search needs)
+    returns-2)

@@ -1,0 +1,26 @@
+use mathlib.Core.Path.{_∙_, sym}
+use borrow.Author.Tests.{not-false, not-true}
+use Rattle.capi.specs.Sheet.{sheetBuffer, sheetWritten}
+use borrow.Author.Needs.{needs}
+use Rattle.capi.proofs.sheet_entries.ds2505_sheet_write.Statement.{statement}
+use Rattle.capi.proofs.sheet_entries.ds2505_sheet_write.Tie as tie
+
+returns : tie.Need-returns
+unfolding sheetBuffer sheetWritten
+returns c = (simp (sym (c .before .is-number .ensures) ∙ not-true (c .before .is-number .result) (c .if1 .taken)), simp (sym (c .before .is-number .ensures) ∙ not-true (c .before .is-number .result) (c .if1 .taken)))
+
+returns-2 : tie.Need-returns-2
+unfolding sheetBuffer sheetWritten
+returns-2 c = (simp (sym (c .before .before .before .before .before .before .before .is-number .ensures) ∙ not-false (c .before .before .before .before .before .before .before .is-number .result) (c .before .before .before .before .before .before .if1 .left), c .code .ensures, c .before .before .before .write .ensures .0, c .before .before .before .before .before .before .before .is-number .ensures), simp (sym (c .before .before .before .before .before .before .before .is-number .ensures) ∙ not-false (c .before .before .before .before .before .before .before .is-number .result) (c .before .before .before .before .before .before .if1 .left)) (c .before .before .before .write .ensures .1 ∙ simp (c .before .before .before .before .before .eight-of .ensures)))
+
+pub ds2505-sheet-write-spec : {M : Type 1} → statement M
+ds2505-sheet-write-spec =
+    tie.close
+    (tie.spec
+    (λ c κs. search needs)
+    returns
+    (λ c κs. search needs)
+    (λ c κs. search needs)
+    (λ c κs. search needs)
+    (λ c. search needs)
+    returns-2)

@@ -1,0 +1,53 @@
+-- The chip's entries, over the page count n.
+use Prim.Native.Nat.{ℕ}
+use mathlib.Core.Bool.{cond}
+use mathlib.Core.List.{List}
+use Rattle.terms.specs.Told.{Told, judge, Done, unlessRefused}
+use Rattle.memory.specs.Layout.{isImage}
+use Rattle.chip.specs.declared.event.State.{State}
+use Rattle.chip.specs.Event.{powerUp}
+use Rattle.chip.specs.Run.{runAnswer, ranChip, ranReplies}
+use Rattle.packing.specs.Chip.{chipOf, chipJudged, chipPacked, chipBuffer}
+use Rattle.capi.specs.Answers.{isNumber, eightOf}
+use Rattle.capi.specs.Calls.{following}
+
+-- ---- a whole run from power-up: 10 for the number, then 1, 2 and 10 as the chip's own
+
+unfoldable pub wholeAnswer : ℕ → List ℕ → List ℕ → List ℕ → List ℕ → Told Done
+wholeAnswer n number codes img replies = judge (isNumber number) 10 (runAnswer n (powerUp (eightOf number)) codes img replies)
+
+unfoldable pub wholeImage : ℕ → List ℕ → List ℕ → List ℕ → List ℕ → List ℕ
+wholeImage n number codes img replies = cond (isNumber number) (ranChip n (powerUp (eightOf number)) codes img replies .image) img
+
+unfoldable pub wholeReplies : ℕ → List ℕ → List ℕ → List ℕ → List ℕ → List ℕ
+wholeReplies n number codes img replies = cond (isNumber number) (ranReplies n (powerUp (eightOf number)) codes img replies) replies
+
+-- ---- step by step
+
+-- 10 for the number and for the state's buffer
+unfoldable pub powerAnswer : List ℕ → List ℕ → Told Done
+powerAnswer number state = judge (isNumber number) 10 (chipPacked state)
+
+unfoldable pub powerState : List ℕ → List ℕ → List ℕ
+powerState number state = cond (isNumber number) (chipBuffer (powerUp (eightOf number)) state) state
+
+-- events on the state that bytes hold: 2 for bytes that are no state; then 1, 2 and 10 as the chip's own; a refusal changes nothing
+unfoldable pub eventsAnswer : ℕ → List ℕ → List ℕ → List ℕ → List ℕ → Told Done
+eventsAnswer n state codes img replies =
+    judge (isImage n img) 1 (following (chipJudged state) (runAnswer n (chipOf state) codes img replies))
+
+unfoldable pub stateAfter : ℕ → State → List ℕ → List ℕ → List ℕ → List ℕ → List ℕ
+stateAfter n s codes img replies state =
+    unlessRefused (runAnswer n s codes img replies) (chipBuffer (ranChip n s codes img replies .state) state) state
+
+unfoldable pub eventsState : ℕ → List ℕ → List ℕ → List ℕ → List ℕ → List ℕ
+eventsState n state codes img replies =
+    cond (isImage n img) (unlessRefused (chipJudged state) (stateAfter n (chipOf state) codes img replies state) state) state
+
+unfoldable pub eventsImage : ℕ → List ℕ → List ℕ → List ℕ → List ℕ → List ℕ
+eventsImage n state codes img replies =
+    cond (isImage n img) (unlessRefused (chipJudged state) (ranChip n (chipOf state) codes img replies .image) img) img
+
+unfoldable pub eventsReplies : ℕ → List ℕ → List ℕ → List ℕ → List ℕ → List ℕ
+eventsReplies n state codes img replies =
+    cond (isImage n img) (unlessRefused (chipJudged state) (ranReplies n (chipOf state) codes img replies) replies) replies

@@ -1,0 +1,125 @@
+// What a caller in C is told.
+ghost use mathlib.Core.Path.{_≡_};
+ghost use mathlib.Core.List.{[], _∷_};
+ghost use Rattle.terms.specs.Told.{accepted, refusing, judgedTold};
+ghost use Rattle.terms.specs.Refusal.{numberOf};
+ghost use Rattle.bus.specs.Codes.{codeOf};
+ghost use Rattle.memory.specs.Page.{copied};
+ghost use Rattle.capi.specs.Answers.{codeIn, isAnswer, isNumber, eightOf, answered};
+use bus::Event;
+use memory::image;
+use memory::page;
+use terms::refusal;
+use terms::refusal::Judged;
+use terms::refusal::Refusal;
+
+// A buffer for an answer has sixteen bytes.
+pub fn is_answer(answer: &[u8]) -> bool
+    ensures { λ r. ⌜ r ≡ isAnswer (now (answer .entry)) ⌝ }
+{
+    answer.len() == 16
+}
+
+// A registration number has eight.
+pub fn is_number(number: &[u8]) -> bool
+    ensures { λ r. ⌜ r ≡ isNumber (now (number .entry)) ⌝ }
+{
+    number.len() == 8
+}
+
+// The first eight bytes of a slice.
+pub fn eight_of(b: &[u8]) -> [u8; 8]
+    ensures { λ r. ⌜ r ≡ eightOf (now (b .entry)) ⌝ }
+{
+    [
+        image::byte_at(b, 0),
+        image::byte_at(b, 1),
+        image::byte_at(b, 2),
+        image::byte_at(b, 3),
+        image::byte_at(b, 4),
+        image::byte_at(b, 5),
+        image::byte_at(b, 6),
+        image::byte_at(b, 7),
+    ]
+}
+
+// The code of an answer that tells nothing more.
+pub fn code(judged: Judged) -> u32
+    ensures { λ r. ⌜ r ≡ codeIn (judgedTold judged) ⌝ }
+{
+    match judged {
+        Judged::Refused(r) => number(r),
+        Judged::Accepted => 0,
+    }
+}
+
+// The code of a refusal.
+pub fn number(refusal: Refusal) -> u32
+    ensures { λ r. ⌜ r ≡ numberOf refusal ⌝ }
+{
+    refusal::number(refusal) as u32
+}
+
+// A refusal: its value, if it gives one back, and its code.
+pub fn refuse(refusal: Refusal, answer: &mut [u8]) -> u32
+    ensures code { λ r. ⌜ r ≡ numberOf refusal ⌝ }
+    ensures answer { λ r. ⌜ now (answer .exit) ≡ answered (refusing refusal) (now (answer .entry)) ⌝ }
+{
+    put_value(refusal, answer);
+    number(refusal)
+}
+
+fn put_value(refusal: Refusal, answer: &mut [u8])
+    ensures { λ r. ⌜ now (answer .exit) ≡ answered (refusing refusal) (now (answer .entry)) ⌝ }
+{
+    match refusal {
+        Refusal::ImageLength => {}
+        Refusal::StateRange => {}
+        Refusal::PageNumber => {}
+        Refusal::Loop => {}
+        Refusal::Outside(x) => tell_one(x, answer),
+        Refusal::Crc16 => {}
+        Refusal::ReadBack => {}
+        Refusal::NoFreePage => {}
+        Refusal::RedirectionProtected(l) => tell_one(l.0, answer),
+        Refusal::BufferLength => {}
+        Refusal::Sheet => {}
+        Refusal::NoPresence => {}
+        Refusal::Crc8 => {}
+        Refusal::Family => {}
+    }
+}
+
+// No value, one, two, eight; an event.
+pub fn tell_nothing(answer: &mut [u8])
+    ensures { λ r. ⌜ now (answer .exit) ≡ answered (accepted []) (now (answer .entry)) ⌝ }
+{
+    page::copy(&[0xFF], answer);
+}
+
+pub fn tell_one(a: u8, answer: &mut [u8])
+    ensures { λ r. ⌜ now (answer .exit) ≡ answered (accepted (a ∷ [])) (now (answer .entry)) ⌝ }
+{
+    page::copy(&[0xFF, a], answer);
+}
+
+pub fn tell_two(a: u8, b: u8, answer: &mut [u8])
+    ensures { λ r. ⌜ now (answer .exit) ≡ answered (accepted (a ∷ b ∷ [])) (now (answer .entry)) ⌝ }
+{
+    page::copy(&[0xFF, a, b], answer);
+}
+
+pub fn tell_event(event: Event, answer: &mut [u8])
+    ensures { λ r. ⌜ now (answer .exit) ≡ copied (codeOf event ∷ []) (now (answer .entry)) ⌝ }
+{
+    page::copy(&[bus::code_of(event)], answer);
+}
+
+pub fn tell_eight(b: [u8; 8], answer: &mut [u8])
+    ensures { λ r. ⌜ now (answer .exit) ≡ answered (accepted b) (now (answer .entry)) ⌝ }
+{
+    page::copy(
+        &[0xFF, b[0], b[1], b[2], b[3], b[4], b[5], b[6], b[7]],
+        answer,
+    );
+}

@@ -1,0 +1,206 @@
+// The publisher: fed a list of replies, and step by step with its state in 48 bytes that the caller lends.
+ghost use mathlib.Core.Path.{_≡_};
+ghost use Rattle.terms.specs.Told.{judgedTold, unlessRefused};
+ghost use Rattle.publisher.specs.Start.{startTold};
+ghost use Rattle.publisher.specs.Call.{turnTold};
+ghost use Rattle.packing.specs.Publisher.{publisherBuffer};
+ghost use Rattle.runs.specs.Publisher.{publisherAfter, publisherTold, publisherEvents, publisherEnd};
+ghost use Rattle.capi.specs.Calls.{following};
+ghost use Rattle.capi.specs.Answers.{codeIn, answered, nextAnswered};
+ghost use Rattle.capi.specs.Publisher.{started, publishTold, publishEvents, publisherRunTold, publisherRunEvents, publisherStarted, publisherStartState, publisherStepTold, publisherStepState, publisherCallTold, publisherCallState};
+use crate::answer;
+use crate::calls;
+use packing::publisher_state;
+use packing::publisher_state::Unpacked;
+use publisher::Answer;
+use publisher::Publisher;
+use publisher::StartAnswer;
+use publisher::Started;
+use terms::address::Page;
+use terms::refusal::Judged;
+
+// What a call told, and its code.
+fn tell(told: Answer, answer: &mut [u8]) -> u32
+    ensures code { λ r. ⌜ r ≡ codeIn (turnTold told) ⌝ }
+    ensures answer { λ r. ⌜ now (answer .exit) ≡ nextAnswered (turnTold told) (now (answer .entry)) ⌝ }
+{
+    match told {
+        Answer::Send(e) => {
+            answer::tell_event(e, answer);
+            0
+        }
+        Answer::Published(l, t) => {
+            answer::tell_two(l.0, t.0, answer);
+            0
+        }
+        Answer::Refused(r) => answer::refuse(r, answer),
+    }
+}
+
+fn run_told(begun: Publisher, replies: &[u8], events: &mut [u8], answer: &mut [u8]) -> u32
+    ensures code { λ r. ⌜ r ≡ codeIn (publisherEnd 64 begun (now (replies .entry))) ⌝ }
+    ensures events { λ r. ⌜ now (events .exit) ≡ publisherEvents 64 begun (now (replies .entry)) (now (events .entry)) ⌝ }
+    ensures answer { λ r. ⌜ now (answer .exit) ≡ nextAnswered (publisherEnd 64 begun (now (replies .entry))) (now (answer .entry)) ⌝ }
+{
+    let last = runs::publish::run(begun, replies, events);
+    let told = last.answer;
+    tell(told, answer)
+}
+
+fn run_started(begun: Started, replies: &[u8], events: &mut [u8], answer: &mut [u8]) -> u32
+    ensures code { λ r. ⌜ r ≡ codeIn (started (startTold (begun .answer)) (publisherEnd 64 (begun .state) (now (replies .entry)))) ⌝ }
+    ensures events { λ r. ⌜ now (events .exit) ≡ unlessRefused (startTold (begun .answer)) (publisherEvents 64 (begun .state) (now (replies .entry)) (now (events .entry))) (now (events .entry)) ⌝ }
+    ensures answer { λ r. ⌜ now (answer .exit) ≡ nextAnswered (started (startTold (begun .answer)) (publisherEnd 64 (begun .state) (now (replies .entry)))) (now (answer .entry)) ⌝ }
+{
+    let told = begun.answer;
+    let state = begun.state;
+    match told {
+        StartAnswer::Refused(r) => answer::refuse(r, answer),
+        StartAnswer::Ready => run_told(state, replies, events, answer),
+    }
+}
+
+fn run_judged(
+    judged: Judged,
+    image: &[u8],
+    new: &[u8],
+    page: u8,
+    replies: &[u8],
+    events: &mut [u8],
+    answer: &mut [u8],
+) -> u32
+    ensures code { λ r. ⌜ r ≡ codeIn (following (judgedTold judged) (publishTold 64 (now (image .entry)) (now (new .entry)) page (now (replies .entry)))) ⌝ }
+    ensures events { λ r. ⌜ now (events .exit) ≡ unlessRefused (judgedTold judged) (publishEvents 64 (now (image .entry)) (now (new .entry)) page (now (replies .entry)) (now (events .entry))) (now (events .entry)) ⌝ }
+    ensures answer { λ r. ⌜ now (answer .exit) ≡ nextAnswered (following (judgedTold judged) (publishTold 64 (now (image .entry)) (now (new .entry)) page (now (replies .entry)))) (now (answer .entry)) ⌝ }
+{
+    match judged {
+        Judged::Refused(r) => answer::refuse(r, answer),
+        Judged::Accepted => run_started(
+            publisher::start(image, new, Page(page)),
+            replies,
+            events,
+            answer,
+        ),
+    }
+}
+
+// The update of a page by a publisher fed these replies: a byte for each call, its event or FFh, and what the last call told.
+// Refused: 10, 2, 1, 3, 4, 5, 9, 8.
+#[no_mangle]
+pub extern "C" fn ds2505_publisher_run(
+    image: &[u8],
+    new: &[u8],
+    page: u8,
+    replies: &[u8],
+    events: &mut [u8],
+    answer: &mut [u8],
+) -> u32
+    ensures code { λ r. ⌜ r ≡ codeIn (publisherRunTold 64 (now (image .entry)) (now (new .entry)) page (now (replies .entry)) (now (events .entry)) (now (answer .entry))) ⌝ }
+    ensures events { λ r. ⌜ now (events .exit) ≡ publisherRunEvents 64 (now (image .entry)) (now (new .entry)) page (now (replies .entry)) (now (events .entry)) (now (answer .entry)) ⌝ }
+    ensures answer { λ r. ⌜ now (answer .exit) ≡ nextAnswered (publisherRunTold 64 (now (image .entry)) (now (new .entry)) page (now (replies .entry)) (now (events .entry)) (now (answer .entry))) (now (answer .entry)) ⌝ }
+{
+    run_judged(
+        calls::judge_run(replies, events, answer),
+        image,
+        new,
+        page,
+        replies,
+        events,
+        answer,
+    )
+}
+
+fn keep_started(begun: Started, state: &mut [u8], answer: &mut [u8]) -> u32
+    ensures code { λ r. ⌜ r ≡ codeIn (startTold (begun .answer)) ⌝ }
+    ensures state { λ r. ⌜ now (state .exit) ≡ unlessRefused (startTold (begun .answer)) (publisherBuffer (begun .state) (now (state .entry))) (now (state .entry)) ⌝ }
+    ensures answer { λ r. ⌜ now (answer .exit) ≡ answered (startTold (begun .answer)) (now (answer .entry)) ⌝ }
+{
+    let told = begun.answer;
+    let after = begun.state;
+    match told {
+        StartAnswer::Refused(r) => answer::refuse(r, answer),
+        StartAnswer::Ready => {
+            publisher_state::pack(after, state);
+            answer::tell_nothing(answer);
+            0
+        }
+    }
+}
+
+// The state before the first call. Refused: 10, 1, 3, 4, 5, 9, 8.
+#[no_mangle]
+pub extern "C" fn ds2505_publisher_start(
+    image: &[u8],
+    new: &[u8],
+    page: u8,
+    state: &mut [u8],
+    answer: &mut [u8],
+) -> u32
+    ensures code { λ r. ⌜ r ≡ codeIn (publisherStarted 64 (now (image .entry)) (now (new .entry)) page (now (state .entry)) (now (answer .entry))) ⌝ }
+    ensures state { λ r. ⌜ now (state .exit) ≡ publisherStartState 64 (now (image .entry)) (now (new .entry)) page (now (state .entry)) (now (answer .entry)) ⌝ }
+    ensures answer { λ r. ⌜ now (answer .exit) ≡ answered (publisherStarted 64 (now (image .entry)) (now (new .entry)) page (now (state .entry)) (now (answer .entry))) (now (answer .entry)) ⌝ }
+{
+    if !answer::is_answer(answer) {
+        return 10;
+    }
+    if state.len() != 48 {
+        return 10;
+    }
+    keep_started(publisher::start(image, new, Page(page)), state, answer)
+}
+
+// A call on a state, and the state after it.
+fn call_state(before: Publisher, reply: bool, state: &mut [u8], answer: &mut [u8]) -> u32
+    ensures code { λ r. ⌜ r ≡ codeIn (publisherTold 64 before reply) ⌝ }
+    ensures state { λ r. ⌜ now (state .exit) ≡ publisherBuffer (publisherAfter 64 before reply) (now (state .entry)) ⌝ }
+    ensures answer { λ r. ⌜ now (answer .exit) ≡ nextAnswered (publisherTold 64 before reply) (now (answer .entry)) ⌝ }
+{
+    let stepped = publisher::call(before, reply);
+    let told = stepped.answer;
+    let after = stepped.state;
+    publisher_state::pack(after, state);
+    tell(told, answer)
+}
+
+fn call_unpacked(unpacked: Unpacked, reply: bool, state: &mut [u8], answer: &mut [u8]) -> u32
+    ensures code { λ r. ⌜ r ≡ codeIn (following (judgedTold (unpacked .judged)) (publisherTold 64 (unpacked .state) reply)) ⌝ }
+    ensures state { λ r. ⌜ now (state .exit) ≡ unlessRefused (judgedTold (unpacked .judged)) (publisherBuffer (publisherAfter 64 (unpacked .state) reply) (now (state .entry))) (now (state .entry)) ⌝ }
+    ensures answer { λ r. ⌜ now (answer .exit) ≡ nextAnswered (following (judgedTold (unpacked .judged)) (publisherTold 64 (unpacked .state) reply)) (now (answer .entry)) ⌝ }
+{
+    let judged = unpacked.judged;
+    let before = unpacked.state;
+    match judged {
+        Judged::Refused(r) => answer::refuse(r, answer),
+        Judged::Accepted => call_state(before, reply, state, answer),
+    }
+}
+
+// A call on the state that bytes hold.
+fn step(state: &mut [u8], reply: bool, answer: &mut [u8]) -> u32
+    ensures code { λ r. ⌜ r ≡ codeIn (publisherStepTold 64 (now (state .entry)) reply) ⌝ }
+    ensures state { λ r. ⌜ now (state .exit) ≡ publisherStepState 64 (now (state .entry)) reply ⌝ }
+    ensures answer { λ r. ⌜ now (answer .exit) ≡ nextAnswered (publisherStepTold 64 (now (state .entry)) reply) (now (answer .entry)) ⌝ }
+{
+    call_unpacked(publisher_state::unpack(state), reply, state, answer)
+}
+
+fn call_judged(judged: Judged, reply: bool, state: &mut [u8], answer: &mut [u8]) -> u32
+    ensures code { λ r. ⌜ r ≡ codeIn (following (judgedTold judged) (publisherStepTold 64 (now (state .entry)) reply)) ⌝ }
+    ensures state { λ r. ⌜ now (state .exit) ≡ unlessRefused (judgedTold judged) (publisherStepState 64 (now (state .entry)) reply) (now (state .entry)) ⌝ }
+    ensures answer { λ r. ⌜ now (answer .exit) ≡ nextAnswered (following (judgedTold judged) (publisherStepTold 64 (now (state .entry)) reply)) (now (answer .entry)) ⌝ }
+{
+    match judged {
+        Judged::Refused(r) => answer::refuse(r, answer),
+        Judged::Accepted => step(state, reply, answer),
+    }
+}
+
+// One call with a reply, 0 or 1: the next event, or the end with L and T. Refused: 10, 2, 13, 6, 7.
+#[no_mangle]
+pub extern "C" fn ds2505_publisher_call(state: &mut [u8], reply: u8, answer: &mut [u8]) -> u32
+    ensures code { λ r. ⌜ r ≡ codeIn (publisherCallTold 64 (now (state .entry)) reply (now (answer .entry))) ⌝ }
+    ensures state { λ r. ⌜ now (state .exit) ≡ publisherCallState 64 (now (state .entry)) reply (now (answer .entry)) ⌝ }
+    ensures answer { λ r. ⌜ now (answer .exit) ≡ nextAnswered (publisherCallTold 64 (now (state .entry)) reply (now (answer .entry))) (now (answer .entry)) ⌝ }
+{
+    call_judged(calls::judge_call(reply, answer), reply == 1, state, answer)
+}

@@ -1,0 +1,23 @@
+use borrow.Author.Tests.{ne-eqb}
+use Rattle.packing.specs.Page.{partOf}
+use Rattle.packing.proofs.page_state.part_of.Statement.{statement}
+use Rattle.packing.proofs.page_state.part_of.Tie as tie
+
+returns : tie.Need-returns
+unfolding partOf
+returns c = simp (c .match .keys1)
+
+returns-2 : tie.Need-returns-2
+unfolding partOf
+returns-2 c = simp (c .match .keys2)
+
+returns-3 : tie.Need-returns-3
+unfolding partOf
+returns-3 c = simp (c .match .keys3)
+
+returns-4 : tie.Need-returns-4
+unfolding partOf
+returns-4 c = simp (ne-eqb _ _ (c .match .rest .1), ne-eqb _ _ (c .match .rest .0 .1), ne-eqb _ _ (c .match .rest .0 .0 .1))
+
+pub part-of-spec : {M : Type 1} → statement M
+part-of-spec = tie.close (tie.spec returns returns-2 returns-3 returns-4)

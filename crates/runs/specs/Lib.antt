@@ -1,0 +1,5 @@
+pub mod Calls
+pub mod Number
+pub mod Page
+pub mod Publisher
+pub mod Laws

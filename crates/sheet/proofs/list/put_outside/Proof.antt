@@ -1,0 +1,19 @@
+use Rattle.sheet.proofs.Puts.{put-then}
+use Rattle.sheet.specs.List.{outsideText}
+use borrow.Author.Needs.{needs}
+use Rattle.sheet.proofs.list.put_outside.Statement.{statement}
+use Rattle.sheet.proofs.list.put_outside.Tie as tie
+
+returns : tie.Need-returns
+unfolding outsideText
+returns c = put-then _ _ _ _ _ _ _ _ (c .before .before .before .before .before .before .put .ensures) (c .before .before .put-decimal .ensures)
+
+pub put-outside-spec : {M : Type 1} → statement M
+put-outside-spec =
+    tie.close
+    (tie.spec
+    (λ c. search needs)
+    (λ c κs. search needs)
+    (λ c κs. search needs)
+    (λ c. search needs)
+    returns)

@@ -1,0 +1,3 @@
+// The stored sheet of a chip, and its list.
+pub mod list;
+pub mod stored;

@@ -1,0 +1,332 @@
+// The named rows, with their values in plain text.
+use chip::walk::Walked;
+use number_read::Answer;
+use number_read::Stepped;
+use terms::address::Page;
+use terms::refusal::Refusal;
+use terms::verdict::Verdict;
+use tray_tools::fill;
+use tray_tools::line;
+use tray_tools::place;
+use tray_tools::text;
+use update::Updated;
+
+fn say_refusal(r: Refusal) {
+    text::words(b"refused ");
+    text::decimal(terms::refusal::number(r) as u64);
+}
+
+fn say_final(page: Page, hops: u8) {
+    text::words(b"final ");
+    text::decimal(page.0 as u64);
+    text::words(b" hops ");
+    text::decimal(hops as u64);
+}
+
+fn say_outside(x: u8) {
+    text::words(b"outside ");
+    text::decimal(x as u64);
+}
+
+fn say_verdict(v: Verdict) {
+    match v {
+        Verdict::Final(page, hops) => say_final(page, hops),
+        Verdict::Loop => text::words(b"loop"),
+        Verdict::Outside(x) => say_outside(x),
+    }
+}
+
+fn say_walk(image: &[u8], page: u8) {
+    match chip::walk::walk(image, Page(page)) {
+        Walked::Refused(r) => say_refusal(r),
+        Walked::Ended(v) => say_verdict(v),
+    }
+}
+
+// ---- walks
+
+fn byte_on_1(byte: u8, image: &mut [u8; 2368]) {
+    fill::blank(image);
+    place::put(image, place::redirection(1), byte);
+    text::words(b"redirection byte of page 1");
+    text::next_byte(byte);
+    text::words(b": ");
+    say_walk(image, 1);
+    text::words(b"\n");
+}
+
+fn bytes_on_1(image: &mut [u8; 2368]) {
+    byte_on_1(0xFD, image);
+    byte_on_1(0xFE, image);
+    byte_on_1(0xC0, image);
+    byte_on_1(0xBF, image);
+    byte_on_1(0x00, image);
+    byte_on_1(0x37, image);
+}
+
+fn long_chain(image: &mut [u8; 2368]) {
+    let mut left = 63u8;
+    while left > 0 {
+        place::name(image, std::num::wrapping_sub_u8(left, 1), left);
+        left -= 1;
+    }
+}
+
+fn chains(image: &mut [u8; 2368]) {
+    fill::blank(image);
+    long_chain(image);
+    text::words(b"chain 0, 1, .. 63, from 0: ");
+    say_walk(image, 0);
+    place::name(image, 63, 1);
+    text::words(b"\nthe same with page 63 naming 1: ");
+    say_walk(image, 0);
+    place::name(image, 63, 200);
+    text::words(b"\nthe same with page 63 naming 200: ");
+    say_walk(image, 0);
+    text::words(b"\n");
+}
+
+// ---- the chip
+
+// A byte is written at data address 25h, on page 1: 33 events up to the address, 8 for the byte, 16 for the CRC, the pulse, 8 read.
+fn write(sent: u8, list: &mut [u8; 65536], image: &mut [u8; 2368], d: &mut u64) {
+    let a = line::begin(list, 0x0F, 0x25, 0x00);
+    let b = line::send(list, a, sent);
+    let c = line::send(list, b, 0xFF);
+    let e = line::send(list, c, 0xFF);
+    let f = line::add(list, e, 3);
+    let end = line::send(list, f, 0xFF);
+    line::run([0u8; 8], end, list, image, d);
+}
+
+fn say_write(list: &mut [u8; 65536], image: &[u8]) {
+    text::words(b": crc");
+    text::next_byte(line::heard(list, 41));
+    text::next_byte(line::heard(list, 49));
+    text::words(b", read back");
+    text::next_byte(line::heard(list, 58));
+    text::words(b", held");
+    text::next_byte(place::get(image, 0x25));
+    text::words(b"\n");
+}
+
+fn writes(list: &mut [u8; 65536], image: &mut [u8; 2368], d: &mut u64) {
+    fill::blank(image);
+    place::put(image, 0x25, 0xF0);
+    text::words(b"0f written over f0");
+    write(0x0F, list, image, d);
+    say_write(list, image);
+    place::put(image, 0x25, 0x5A);
+    text::words(b"ff written over 5a");
+    write(0xFF, list, image, d);
+    say_write(list, image);
+    place::clear(image, 0, 1);
+    text::words(b"0f written over a protected 5a");
+    write(0x0F, list, image, d);
+    say_write(list, image);
+}
+
+fn no_bytes() {
+    text::words(b"crc-16 of no bytes is sent as");
+    let sent = crc::crc16::sent(crc::crc16::of(&[]));
+    text::next_byte(sent.0);
+    text::next_byte(sent.1);
+    text::words(b"\n");
+}
+
+// Five bytes are read after a start address.
+fn read(
+    command: u8,
+    low: u8,
+    high: u8,
+    list: &mut [u8; 65536],
+    image: &mut [u8; 2368],
+    d: &mut u64,
+) {
+    let a = line::begin(list, command, low, high);
+    let b = line::send(list, a, 0xFF);
+    let c = line::send(list, b, 0xFF);
+    let e = line::send(list, c, 0xFF);
+    let f = line::send(list, e, 0xFF);
+    let end = line::send(list, f, 0xFF);
+    line::run([0u8; 8], end, list, image, d);
+}
+
+fn say_start(command: u8, low: u8, high: u8) {
+    text::words(b"command");
+    text::next_byte(command);
+    text::words(b" start");
+    text::next_byte(high);
+    text::next_byte(low);
+    text::words(b":");
+}
+
+fn say_read(list: &mut [u8; 65536]) {
+    text::next_byte(line::heard(list, 33));
+    text::next_byte(line::heard(list, 41));
+    text::next_byte(line::heard(list, 49));
+    text::next_byte(line::heard(list, 57));
+    text::next_byte(line::heard(list, 65));
+    text::words(b"\n");
+}
+
+fn read_from(
+    command: u8,
+    low: u8,
+    high: u8,
+    list: &mut [u8; 65536],
+    image: &mut [u8; 2368],
+    d: &mut u64,
+) {
+    read(command, low, high, list, image, d);
+    say_start(command, low, high);
+    say_read(list);
+}
+
+// A byte, its CRC, then ones; and only ones.
+fn starts(list: &mut [u8; 65536], image: &mut [u8; 2368], d: &mut u64) {
+    fill::blank(image);
+    place::put(image, 0x7FF, 0x5A);
+    read_from(0xF0, 0xFF, 0x07, list, image, d);
+    read_from(0xF0, 0x00, 0x08, list, image, d);
+    read_from(0xA5, 0x00, 0x08, list, image, d);
+    read_from(0xAA, 0x3F, 0x01, list, image, d);
+    read_from(0xAA, 0x40, 0x01, list, image, d);
+}
+
+// ---- the masters
+
+fn say_number(answer: Answer) {
+    match answer {
+        Answer::Send(_) => text::words(b"no end"),
+        Answer::Done => text::words(b"accepted"),
+        Answer::Refused(r) => say_refusal(r),
+    }
+}
+
+// So many bytes of ones.
+fn ones(list: &mut [u8; 65536], at: usize, bytes: u8) -> usize {
+    let mut next = at;
+    let mut left = bytes;
+    while left > 0 {
+        next = line::send(list, next, 0xFF);
+        left -= 1;
+    }
+    next
+}
+
+// The 74 events of a number read, on a chip whose number is eight zero bytes.
+fn run_number(list: &mut [u8; 65536], image: &mut [u8; 2368], d: &mut u64) {
+    let a = line::add(list, 0, 2);
+    let b = line::send(list, a, 0x33);
+    let c = ones(list, b, 8);
+    let end = line::add(list, c, 2);
+    line::run([0u8; 8], end, list, image, d);
+}
+
+fn next_call(s: Stepped, reply: bool) -> Stepped {
+    let state = s.state;
+    number_read::call(state, reply)
+}
+
+// The master's answer to these replies, or to those up to its end.
+fn answer_to(list: &mut [u8; 65536]) -> Answer {
+    let mut s = number_read::call(number_read::start(), true);
+    let mut left = 74usize;
+    while left > 0 {
+        s = next_call(s, place::get(list, place::passed(74, left)) == 1);
+        left -= 1;
+    }
+    s.answer
+}
+
+fn zero_number(list: &mut [u8; 65536], image: &mut [u8; 2368], d: &mut u64) {
+    run_number(list, image, d);
+    text::words(b"eight zero bytes as a number: crc-8");
+    text::next_byte(crc::crc8::of(&[0u8; 7]));
+    text::words(b", ");
+    say_number(answer_to(list));
+    text::words(b"\n");
+}
+
+// A page's bytes as its own part of the image.
+fn say_page(image: &[u8], page: u8) {
+    text::bytes(chip::page::part(image, Page(page)));
+}
+
+// Page 0 holds 11h in every byte.
+fn elevens(image: &mut [u8; 2368]) {
+    let mut left = 32usize;
+    while left > 0 {
+        left -= 1;
+        place::put(image, left, 0x11);
+    }
+}
+
+// Page 0 is superseded by 22h in every byte.
+fn cut(events: u32, final_page: u8, image: &mut [u8; 2368], new: &mut [u8; 32]) {
+    fill::blank(image);
+    elevens(image);
+    text::words(b"cut after event ");
+    text::decimal(events as u64);
+    update::update(image, [0u8; 8], new, Page(0), events);
+    text::words(b": page 0 ");
+    say_walk(image, 0);
+    text::words(b",");
+    say_page(image, final_page);
+    text::words(b"\n");
+}
+
+fn say_updated(u: Updated) {
+    match u {
+        Updated::Refused(r) => say_refusal(r),
+        Updated::Ran(l, t) => {
+            text::words(b"L = ");
+            text::decimal(l.0 as u64);
+            text::words(b", T = ");
+            text::decimal(t.0 as u64);
+        }
+    }
+}
+
+fn blank_update(page: u8, image: &mut [u8; 2368], new: &mut [u8; 32]) {
+    fill::blank(image);
+    text::words(b"blank image, p = ");
+    text::decimal(page as u64);
+    text::words(b": ");
+    say_updated(update::update(image, [0u8; 8], new, Page(page), 1222));
+    text::words(b"\n");
+}
+
+// Pages 2 to 63 are marked used.
+fn mark(image: &mut [u8; 2368]) {
+    let mut left = 62u8;
+    while left > 0 {
+        place::clear(image, 0x40, std::num::wrapping_add_u8(left, 1));
+        left -= 1;
+    }
+}
+
+fn full_update(image: &mut [u8; 2368], new: &mut [u8; 32]) {
+    fill::blank(image);
+    mark(image);
+    text::words(b"the same with pages 2 to 63 marked used, p = 1: ");
+    say_updated(update::update(image, [0u8; 8], new, Page(1), 1222));
+    text::words(b"\n");
+}
+
+pub fn all(list: &mut [u8; 65536], image: &mut [u8; 2368], new: &mut [u8; 32]) {
+    let mut d = 1u64;
+    bytes_on_1(image);
+    chains(image);
+    writes(list, image, &mut d);
+    no_bytes();
+    starts(list, image, &mut d);
+    zero_number(list, image, &mut d);
+    fill::same(new, 0x22);
+    cut(1212, 0, image, new);
+    cut(1213, 1, image, new);
+    blank_update(0, image, new);
+    blank_update(1, image, new);
+    full_update(image, new);
+}

@@ -1,0 +1,40 @@
+//! What is stored in the repository and made by this model: the samples, and
+//! what each Rattle program is run on and must write.
+
+use std::path::{Path, PathBuf};
+
+use crate::{samples, sheet, tray};
+
+/// Each stored file, with the bytes that it must hold.
+pub fn files() -> Vec<(PathBuf, Vec<u8>)> {
+    let top = Path::new(env!("CARGO_MANIFEST_DIR")).join("..");
+    let mut files = vec![
+        ("crates/tray/stdout".into(), tray::text().into_bytes()),
+        (
+            "crates/tray_chip/stdout".into(),
+            tray::chip_text().into_bytes(),
+        ),
+        (
+            "crates/tray_masters/stdout".into(),
+            tray::masters_text().into_bytes(),
+        ),
+        ("crates/list_cases/stdin".into(), samples::cases_input()),
+        (
+            "crates/list_cases/stdout".into(),
+            samples::cases_output().into_bytes(),
+        ),
+    ];
+    for (name, bytes) in samples::shipped() {
+        let text = sheet::list(&bytes).into_bytes();
+        if name == "example" {
+            files.push(("crates/list/stdin".to_string(), bytes.clone()));
+            files.push(("crates/list/stdout".to_string(), text.clone()));
+        }
+        files.push((format!("samples/{name}.sheet"), bytes));
+        files.push((format!("samples/{name}.list"), text));
+    }
+    files
+        .into_iter()
+        .map(|(name, bytes)| (top.join(name), bytes))
+        .collect()
+}

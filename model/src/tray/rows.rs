@@ -1,0 +1,179 @@
+//! The named rows, with their values in plain text.
+
+use super::redirection;
+use crate::bits::{bits_of, bytes_of};
+use crate::chip::{Chip, Event};
+use crate::crc::{crc16_sent, crc8};
+use crate::memory::{blank_image, check_page, page_bytes, DATA_LENGTH, USED_BITMAP};
+use crate::number_read::read_number;
+use crate::publisher::{update, Outcome};
+use crate::random::chain_image;
+use crate::refusal::Refusal;
+use crate::walk::{walk, Final, Verdict};
+
+fn refusal_text(refusal: Refusal) -> String {
+    format!("refused {}", refusal.number())
+}
+
+fn walk_text(image: &[u8], page: u8) -> String {
+    match walk(image, page) {
+        Ok(Verdict::Final(Final { page, hops })) => format!("final {page} hops {hops}"),
+        Ok(Verdict::Loop) => String::from("loop"),
+        Ok(Verdict::Outside(number)) => format!("outside {number}"),
+        Err(refusal) => refusal_text(refusal),
+    }
+}
+
+/// Each byte with a space before it.
+fn bytes_text(bytes: &[u8]) -> String {
+    bytes.iter().map(|byte| format!(" {byte:02x}")).collect()
+}
+
+fn walks() -> String {
+    let mut text = String::new();
+    for byte in [0xFD, 0xFE, 0xC0, 0xBF, 0x00, 0x37] {
+        let mut image = blank_image();
+        image[redirection(1)] = byte;
+        let verdict = walk_text(&image, 1);
+        text += &format!("redirection byte of page 1 {byte:02x}: {verdict}\n");
+    }
+    let mut pages: Vec<u8> = (0..64).collect();
+    let verdict = walk_text(&chain_image(&pages), 0);
+    text += &format!("chain 0, 1, .. 63, from 0: {verdict}\n");
+    for last in [1, 200] {
+        pages.push(last);
+        let verdict = walk_text(&chain_image(&pages), 0);
+        text += &format!("the same with page 63 naming {last}: {verdict}\n");
+        pages.pop();
+    }
+    text
+}
+
+fn send(chip: &mut Chip, bytes: &[u8]) {
+    for bit in bits_of(bytes) {
+        chip.event(Event::Slot(bit));
+    }
+}
+
+fn read_text(chip: &mut Chip, count: usize) -> String {
+    let bits: Vec<bool> = (0..8 * count)
+        .map(|_| chip.event(Event::Slot(true)))
+        .collect();
+    bytes_text(&bytes_of(&bits))
+}
+
+/// A chip after a reset, Skip ROM and these bytes.
+fn begun(image: Vec<u8>, bytes: &[u8]) -> Chip {
+    let mut chip = Chip::power_up([0; 8], image).expect("the image has its length");
+    chip.event(Event::Reset);
+    send(&mut chip, &[0xCC]);
+    send(&mut chip, bytes);
+    chip
+}
+
+/// Bytes written at data address 25h, on page 1.
+fn writes() -> String {
+    let mut text = String::new();
+    for (old, sent, protected) in [(0xF0, 0x0F, false), (0x5A, 0xFF, false), (0x5A, 0x0F, true)] {
+        let mut image = blank_image();
+        image[0x25] = old;
+        if protected {
+            image[DATA_LENGTH] = 0xFD;
+        }
+        let mut chip = begun(image, &[0x0F, 0x25, 0x00, sent]);
+        let crc = read_text(&mut chip, 2);
+        chip.event(Event::Pulse);
+        let back = read_text(&mut chip, 1);
+        let held = bytes_text(&chip.image[0x25..0x26]);
+        let protected = if protected { "a protected " } else { "" };
+        text += &format!(
+            "{sent:02x} written over {protected}{old:02x}: crc{crc}, read back{back}, held{held}\n"
+        );
+    }
+    text
+}
+
+/// What is read after a start address: a byte, its CRC, then ones; or ones.
+fn starts() -> String {
+    let mut image = blank_image();
+    image[0x7FF] = 0x5A;
+    let mut text = String::new();
+    for (command, high, low) in [
+        (0xF0, 0x07, 0xFF),
+        (0xF0, 0x08, 0x00),
+        (0xA5, 0x08, 0x00),
+        (0xAA, 0x01, 0x3F),
+        (0xAA, 0x01, 0x40),
+    ] {
+        let mut chip = begun(image.clone(), &[command, low, high]);
+        let read = read_text(&mut chip, 5);
+        text += &format!("command {command:02x} start {high:02x} {low:02x}:{read}\n");
+    }
+    text
+}
+
+fn zero_number() -> String {
+    let number = [0; 8];
+    let mut chip = Chip::power_up(number, blank_image()).expect("the image has its length");
+    let end = match read_number(&mut chip).0 {
+        Ok(_) => String::from("accepted"),
+        Err(refusal) => refusal_text(refusal),
+    };
+    let crc = bytes_text(&[crc8(&number[..7])]);
+    format!("eight zero bytes as a number: crc-8{crc}, {end}\n")
+}
+
+/// Page 0 holds 11h in every byte, and is superseded by 22h in every byte.
+fn cuts() -> String {
+    let mut text = String::new();
+    for (events, final_page) in [(1212, 0), (1213, 1)] {
+        let mut image = blank_image();
+        image[..32].fill(0x11);
+        let left = update(&image, &[0x22; 32], 0, Some(events))
+            .expect("there is a free page")
+            .image;
+        let verdict = walk_text(&left, 0);
+        let page = check_page(final_page).expect("there is such a page");
+        let bytes = bytes_text(page_bytes(&left, page));
+        text += &format!("cut after event {events}: page 0 {verdict},{bytes}\n");
+    }
+    text
+}
+
+fn update_text(image: &[u8], page: u8) -> String {
+    match update(image, &[0x22; 32], page, None).map(|run| run.outcome) {
+        Ok(Outcome::Published(pages)) => format!("L = {}, T = {}", pages.l, pages.t),
+        Ok(Outcome::Cut) => String::from("cut"),
+        Ok(Outcome::Refused(refusal)) | Err(refusal) => refusal_text(refusal),
+    }
+}
+
+fn updates() -> String {
+    let mut image = blank_image();
+    let zero = update_text(&image, 0);
+    let one = update_text(&image, 1);
+    let bitmap = DATA_LENGTH + usize::from(USED_BITMAP);
+    // Pages 2 to 63 are marked used.
+    image[bitmap..bitmap + 8].fill(0x00);
+    image[bitmap] = 0x03;
+    let full = update_text(&image, 1);
+    format!(
+        "blank image, p = 0: {zero}\n\
+         blank image, p = 1: {one}\n\
+         the same with pages 2 to 63 marked used, p = 1: {full}\n"
+    )
+}
+
+pub fn all() -> String {
+    let none = bytes_text(&crc16_sent(&[]));
+    [
+        walks(),
+        writes(),
+        format!("crc-16 of no bytes is sent as{none}\n"),
+        starts(),
+        zero_number(),
+        cuts(),
+        updates(),
+    ]
+    .concat()
+}
