@@ -1,0 +1,40 @@
+//! Links the proved library, which `rt staticlib capi` writes.
+
+use std::path::PathBuf;
+use std::process::{exit, Command};
+
+fn main() {
+    let here = PathBuf::from(std::env::var_os("CARGO_MANIFEST_DIR").expect("cargo sets this"));
+    let folder = here.join("../target/staticlib");
+    let library = folder.join("libcapi.a");
+    println!("cargo:rerun-if-changed={}", library.display());
+    if !library.is_file() {
+        eprintln!();
+        eprintln!("The proved library target/staticlib/libcapi.a is missing.");
+        eprintln!("Build it with `rt staticlib capi` at the top of the repository.");
+        eprintln!();
+        exit(1);
+    }
+    println!("cargo:rustc-link-search=native={}", folder.display());
+    println!("cargo:rustc-link-lib=static=capi");
+    println!("cargo:rustc-env=DS2505_RUSTC={}", compiler());
+}
+
+/// The compiler's version, which the benchmark prints.
+fn compiler() -> String {
+    let rustc = std::env::var_os("RUSTC").expect("cargo sets this");
+    let output = Command::new(rustc).arg("-vV").output().expect("rustc runs");
+    let text = String::from_utf8_lossy(&output.stdout);
+    let field = |name: &str| {
+        text.lines()
+            .find_map(|line| line.strip_prefix(name))
+            .unwrap_or("unknown")
+            .trim()
+            .to_string()
+    };
+    format!(
+        "rustc {}, LLVM {}",
+        field("release:"),
+        field("LLVM version:")
+    )
+}

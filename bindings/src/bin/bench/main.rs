@@ -1,0 +1,316 @@
+//! The proved library against the second model and against plain Rust.
+//!
+//! `cargo run --release --offline --bin bench`. Every figure is a ratio of two
+//! times of one run: the best of many repetitions, in which all programs take
+//! turns. Before anything is timed, all programs must give the same results.
+
+mod crc;
+mod plain;
+mod session;
+
+use std::hint::black_box;
+use std::time::{Duration, Instant};
+
+use ds2505::{calls, ANSWER_SIZE, CHIP_STATE_SIZE, NO_EVENT, PAGE_SIZE, PAGE_STATE_SIZE};
+use ds2505_model::chip::Chip;
+use ds2505_model::page_read::read_page;
+use ds2505_model::publisher::{update, Outcome};
+use ds2505_model::random::{chain_image, used_image, Generator};
+use ds2505_model::walk::Final;
+
+const NUMBER: [u8; 8] = [0x0B, 0x11, 0x22, 0x33, 0x44, 0x55, 0x66, 0x77];
+
+/// A program that is timed.
+struct Timed<'a> {
+    name: &'a str,
+    run: Box<dyn FnMut() + 'a>,
+}
+
+fn timed<'a>(name: &'a str, run: impl FnMut() + 'a) -> Timed<'a> {
+    Timed {
+        name,
+        run: Box::new(run),
+    }
+}
+
+/// Lets all programs take turns on the same work, so many events or bytes, and
+/// prints for each its best time and speed, and for each but the first how many
+/// times as fast as it the first is.
+fn compare(title: &str, work: usize, unit: &str, repetitions: usize, mut programs: Vec<Timed>) {
+    let mut best = vec![Duration::MAX; programs.len()];
+    for _ in 0..repetitions {
+        for (program, best) in programs.iter_mut().zip(&mut best) {
+            let start = Instant::now();
+            (program.run)();
+            *best = start.elapsed().min(*best);
+        }
+    }
+    println!();
+    println!("{title}");
+    println!(
+        "  {:<48} {:>12} {:>17} {:>22}",
+        "program",
+        "best time",
+        format!("million {unit}/s"),
+        "the first is"
+    );
+    for (place, (program, time)) in programs.iter().zip(&best).enumerate() {
+        let micros = time.as_secs_f64() * 1e6;
+        let speed = work as f64 / micros;
+        print!("  {:<48} {micros:>9.1} us {speed:>17.1}", program.name);
+        if place == 0 {
+            println!();
+        } else {
+            let ratio = time.as_secs_f64() / best[0].as_secs_f64();
+            println!(" {ratio:>9.2} times as fast");
+        }
+    }
+}
+
+fn model_event(event: ds2505::Event) -> ds2505_model::chip::Event {
+    use ds2505_model::chip::Event;
+    match event {
+        ds2505::Event::Slot(bit) => Event::Slot(bit),
+        ds2505::Event::Reset => Event::Reset,
+        ds2505::Event::Pulse => Event::Pulse,
+        ds2505::Event::PowerLoss => Event::PowerLoss,
+    }
+}
+
+/// (a) A whole session on a chip.
+fn chips() {
+    let mut generator = Generator::new(1);
+    let image = used_image(&mut generator);
+    let session = session::session();
+    let bytes: Vec<u8> = session.iter().map(|event| event.code()).collect();
+    let events: Vec<_> = session.iter().map(|&event| model_event(event)).collect();
+
+    let proved = |replies: &mut [u8]| {
+        let mut image = image.clone();
+        assert_eq!(calls::chip_run(&NUMBER, &bytes, &mut image, replies), 0);
+        image
+    };
+    let model = |replies: &mut [u8]| {
+        let mut chip = Chip::power_up(NUMBER, image.clone()).unwrap();
+        for (&event, reply) in events.iter().zip(replies) {
+            *reply = u8::from(chip.event(event));
+        }
+        chip.image
+    };
+    let plain = |replies: &mut [u8]| {
+        let mut image: [u8; plain::IMAGE_LENGTH] = image[..].try_into().unwrap();
+        plain::run(NUMBER, &bytes, &mut image, replies);
+        image.to_vec()
+    };
+
+    let mut replies = vec![0; bytes.len()];
+    let left = proved(&mut replies);
+    for other in [&model as &dyn Fn(&mut [u8]) -> Vec<u8>, &plain] {
+        let mut other_replies = vec![0; bytes.len()];
+        assert_eq!(other(&mut other_replies), left);
+        assert_eq!(other_replies, replies);
+    }
+
+    let mut buffers = [replies.clone(), replies.clone(), replies];
+    let [first, second, third] = &mut buffers;
+    compare(
+        &format!("(a) chip: one session of {} events", bytes.len()),
+        bytes.len(),
+        "events",
+        1000,
+        vec![
+            timed("proved: ds2505_chip_run", || {
+                black_box(proved(black_box(first)));
+            }),
+            timed("second model", || {
+                black_box(model(black_box(second)));
+            }),
+            timed("plain register machine in Rust", || {
+                black_box(plain(black_box(third)));
+            }),
+        ],
+    );
+}
+
+/// A page read joined to a chip, both step by step through the C interface:
+/// the answer, the page, and the events and the replies of all calls.
+struct Joined {
+    answer: [u8; ANSWER_SIZE],
+    buffer: [u8; PAGE_SIZE],
+    events: Vec<u8>,
+    replies: Vec<u8>,
+}
+
+fn join(page: u8, image: &mut [u8], joined: &mut Joined) {
+    let mut chip = [0; CHIP_STATE_SIZE];
+    let mut reader = [0; PAGE_STATE_SIZE];
+    let mut reply = [1];
+    joined.events.clear();
+    joined.replies.clear();
+    assert_eq!(calls::chip_power_up(&NUMBER, &mut chip), 0);
+    assert_eq!(calls::page_start(page, &mut reader), 0);
+    loop {
+        let code = calls::page_call(
+            &mut reader,
+            reply[0],
+            &mut joined.buffer,
+            &mut joined.answer,
+        );
+        assert_eq!(code, 0);
+        joined.replies.push(reply[0]);
+        if joined.answer[0] == NO_EVENT {
+            return;
+        }
+        let event = [joined.answer[0]];
+        joined.events.push(event[0]);
+        let code = calls::chip_events(&mut chip, &event, image, &mut reply);
+        assert_eq!(code, 0);
+    }
+}
+
+/// (b) A page read over a chain of eight hops.
+fn page_reads() {
+    let chain = [5, 17, 3, 40, 22, 63, 8, 31, 50];
+    let mut image = chain_image(&chain);
+    for (place, byte) in image[32 * 50..32 * 51].iter_mut().enumerate() {
+        *byte = (place as u8).wrapping_mul(37) ^ 0x5A;
+    }
+    let mut chip = Chip::power_up(NUMBER, image.clone()).unwrap();
+    let mut joined = Joined {
+        answer: [0; ANSWER_SIZE],
+        buffer: [0; PAGE_SIZE],
+        events: Vec::with_capacity(4096),
+        replies: Vec::with_capacity(4096),
+    };
+    join(5, &mut image, &mut joined);
+    let reading = read_page(&mut chip, 5).unwrap();
+    assert_eq!(reading.result, Ok(Final { page: 50, hops: 8 }));
+    assert_eq!(joined.answer[..3], [NO_EVENT, 50, 8]);
+    assert_eq!(joined.buffer, reading.buffer);
+    assert_eq!(joined.events.len(), reading.events);
+
+    // The same events and replies as two runs, each given what the other told.
+    let events = joined.events.clone();
+    let replies = joined.replies.clone();
+    let mut drawn = vec![0; events.len()];
+    let mut told = vec![0; replies.len()];
+    let mut buffer = [0; PAGE_SIZE];
+    let mut answer = [0; ANSWER_SIZE];
+    let mut runs_image = image.clone();
+    let mut runs = || {
+        let chip = calls::chip_run(&NUMBER, &events, &mut runs_image, &mut drawn);
+        let master = calls::page_run(5, &replies, &mut told, &mut buffer, &mut answer);
+        assert_eq!((chip, master), (0, 0));
+        (drawn == replies[1..], told[..events.len()] == events[..])
+    };
+    assert_eq!(runs(), (true, true));
+
+    compare(
+        &format!(
+            "(b) page read over 8 hops, joined to a chip: {} events",
+            reading.events
+        ),
+        reading.events,
+        "events",
+        6000,
+        vec![
+            timed("proved: ds2505_page_call, ds2505_chip_events", || {
+                join(black_box(5), &mut image, &mut joined);
+                black_box(&joined.buffer);
+            }),
+            timed("second model: reader and chip", || {
+                black_box(read_page(&mut chip, black_box(5)).unwrap());
+            }),
+            timed("proved, as runs: ds2505_page_run, _chip_run", || {
+                black_box(runs());
+            }),
+        ],
+    );
+}
+
+/// (c) A whole update.
+fn updates() {
+    let image = chain_image(&[5, 17, 3, 40]);
+    let new: [u8; 32] = Generator::new(2).bytes();
+    let run = update(&image, &new, 5, None).unwrap();
+    let Outcome::Published(pages) = run.outcome else {
+        panic!("{:?}", run.outcome);
+    };
+    let proved = || {
+        let mut image = image.clone();
+        let mut answer = [0; ANSWER_SIZE];
+        let code = calls::update(&mut image, &NUMBER, &new, black_box(5), 1222, &mut answer);
+        assert_eq!(code, 0);
+        (image, answer)
+    };
+    let (left, answer) = proved();
+    assert_eq!(answer[..3], [NO_EVENT, pages.l, pages.t]);
+    assert_eq!(left, run.image);
+
+    compare(
+        &format!("(c) whole update of a page: {} events", run.events),
+        run.events,
+        "events",
+        6000,
+        vec![
+            timed("proved: ds2505_update", || {
+                black_box(proved());
+            }),
+            timed("second model: publisher and chip", || {
+                black_box(update(&image, &new, black_box(5), None).unwrap());
+            }),
+        ],
+    );
+}
+
+/// A program for the CRC-16: the register after some bytes.
+type Crc<'a> = &'a dyn Fn(u16, &[u8]) -> u16;
+
+/// (d) The CRC-16 of 1 MiB in buffers of 64 KiB.
+fn crcs() {
+    let mut generator = Generator::new(3);
+    let bytes: Vec<u8> = (0..1 << 20).map(|_| generator.byte()).collect();
+    let whole = |crc: Crc| {
+        bytes
+            .chunks(1 << 16)
+            .fold(0, |register, buffer| crc(register, black_box(buffer)))
+    };
+    let programs: [(&str, Crc); 4] = [
+        ("proved: ds2505_crc16", &calls::crc16),
+        (
+            "plain loop in Rust, which LLVM makes a table of",
+            &crc::plain,
+        ),
+        ("bit-serial program in Rust", &crc::serial),
+        (
+            "plain loop in Rust, the polynomial hidden",
+            &crc::plain_without_idiom,
+        ),
+    ];
+    let expected = ds2505_model::crc::crc16(&bytes);
+    for (name, crc) in programs {
+        assert_eq!(whole(crc), expected, "{name}");
+    }
+    compare(
+        "(d) CRC-16 of 1 MiB in buffers of 64 KiB",
+        bytes.len(),
+        "bytes",
+        60,
+        programs
+            .iter()
+            .map(|&(name, crc)| {
+                timed(name, move || {
+                    black_box(whole(crc));
+                })
+            })
+            .collect(),
+    );
+}
+
+fn main() {
+    println!("{}, release profile", env!("DS2505_RUSTC"));
+    chips();
+    page_reads();
+    updates();
+    crcs();
+}

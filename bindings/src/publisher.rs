@@ -1,0 +1,84 @@
+//! The master that supersedes a page.
+
+use crate::{
+    calls, events_of, refusal, reply_bytes, told, Answer, AnswerBuffer, Refusal, Run, ANSWER_SIZE,
+    PUBLISHER_STATE_SIZE,
+};
+
+/// The two pages of an update.
+#[derive(Clone, Copy, Debug, PartialEq, Eq)]
+pub struct Published {
+    /// L, the page that is superseded.
+    pub l: u8,
+    /// T, the page that takes the new bytes.
+    pub t: u8,
+}
+
+fn published(answer: &AnswerBuffer) -> Published {
+    Published {
+        l: answer[1],
+        t: answer[2],
+    }
+}
+
+/// An update of a page fed these replies. Refusals of the start (1, 10, 3, 4,
+/// 5, 9, 8) come as errors.
+pub fn publisher_run(
+    image: &[u8],
+    new_page: &[u8],
+    page: u8,
+    replies: &[bool],
+) -> Result<Run<Published>, Refusal> {
+    let mut events = vec![0; replies.len()];
+    let mut answer = [0; ANSWER_SIZE];
+    let code = calls::publisher_run(
+        image,
+        new_page,
+        page,
+        &reply_bytes(replies),
+        &mut events,
+        &mut answer,
+    );
+    // The calls tell no other codes.
+    if !matches!(code, 0 | 6 | 7 | 13) {
+        return Err(refusal(code, &answer));
+    }
+    Ok(Run {
+        events: events_of(&events),
+        last: told(code, &answer, published),
+    })
+}
+
+/// An update under way.
+#[derive(Clone, Copy, Debug, PartialEq, Eq)]
+pub struct Publisher {
+    state: [u8; PUBLISHER_STATE_SIZE],
+}
+
+impl Publisher {
+    /// Refusals 1, 10, 3, 4, 5, 9 and 8, in this order.
+    pub fn start(image: &[u8], new_page: &[u8], page: u8) -> Result<Publisher, Refusal> {
+        let mut state = [0; PUBLISHER_STATE_SIZE];
+        let mut answer = [0; ANSWER_SIZE];
+        match calls::publisher_start(image, new_page, page, &mut state, &mut answer) {
+            0 => Ok(Publisher { state }),
+            code => Err(refusal(code, &answer)),
+        }
+    }
+
+    /// An update with these bytes as its state; each call judges them.
+    pub fn of_bytes(state: [u8; PUBLISHER_STATE_SIZE]) -> Publisher {
+        Publisher { state }
+    }
+
+    pub fn bytes(&self) -> &[u8; PUBLISHER_STATE_SIZE] {
+        &self.state
+    }
+
+    /// Refusals 13, 6 and 7 (2 with bytes that are no state).
+    pub fn call(&mut self, reply: bool) -> Result<Answer<Published>, Refusal> {
+        let mut answer = [0; ANSWER_SIZE];
+        let code = calls::publisher_call(&mut self.state, u8::from(reply), &mut answer);
+        told(code, &answer, published)
+    }
+}

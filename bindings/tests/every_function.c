@@ -1,0 +1,255 @@
+/* Calls every function through the header, so that its declarations are held
+   to the library: right calls, and calls with nothing but null pointers. */
+#include <stdio.h>
+#include <string.h>
+#include "ds2505.h"
+
+#define CHECK(condition)                                                      \
+    do {                                                                      \
+        if (!(condition)) {                                                   \
+            printf("line %d: %s\n", __LINE__, #condition);                    \
+            return 1;                                                         \
+        }                                                                     \
+    } while (0)
+
+static uint8_t image[DS2505_IMAGE_SIZE];
+static uint8_t sheet[DS2505_SHEET_SIZE];
+static uint8_t text[DS2505_LIST_TEXT_SIZE];
+static uint8_t number[DS2505_NUMBER_SIZE] = {0x0B, 1, 2, 3, 4, 5, 6, 0};
+static uint8_t bytes[DS2505_PAGE_SIZE];
+static uint8_t page[DS2505_PAGE_SIZE];
+static uint8_t chip[DS2505_CHIP_STATE_SIZE];
+static uint8_t reader[DS2505_NUMBER_STATE_SIZE];
+static uint8_t page_reader[DS2505_PAGE_STATE_SIZE];
+static uint8_t publisher[DS2505_PUBLISHER_STATE_SIZE];
+static uint8_t answer[DS2505_ANSWER_SIZE];
+static uint8_t events[2000];
+static uint8_t replies[2000];
+
+static int crcs(void)
+{
+    const uint8_t note[8] = {0x02, 0x1C, 0xB8, 0x01, 0x00, 0x00, 0x00, 0xA2};
+    const uint8_t byte = 0x75;
+    CHECK(ds2505_crc8(0, note, 7) == 0xA2);
+    CHECK(ds2505_crc8(0, note, 8) == 0);
+    CHECK(ds2505_crc16(0x90F1, &byte, 1) == 0x6390);
+    CHECK(ds2505_crc8(0x5A, NULL, 0) == 0x5A);
+    CHECK(ds2505_crc16(0xA55A, NULL, 0) == 0xA55A);
+    number[7] = ds2505_crc8(0, number, 7);
+    return 0;
+}
+
+static int on_an_image(void)
+{
+    uint8_t old[DS2505_PAGE_SIZE];
+    memset(image, 0xFF, sizeof image);
+    memset(bytes, 0x3C, sizeof bytes);
+    memset(image + 32 * 5, 0x77, 32);
+    CHECK(ds2505_page(image, sizeof image, 5, old, sizeof old)
+          == DS2505_ACCEPTED);
+    CHECK(old[0] == 0x77 && old[31] == 0x77);
+    CHECK(ds2505_free_page(image, sizeof image, 5, answer, sizeof answer)
+          == DS2505_ACCEPTED);
+    CHECK(answer[0] == DS2505_NO_EVENT && answer[1] == 1);
+    CHECK(ds2505_update(image, sizeof image, number, sizeof number, bytes,
+                        sizeof bytes, 5, 1222, answer, sizeof answer)
+          == DS2505_ACCEPTED);
+    CHECK(answer[0] == DS2505_NO_EVENT && answer[1] == 5 && answer[2] == 1);
+    CHECK(ds2505_walk(image, sizeof image, 5, answer, sizeof answer)
+          == DS2505_ACCEPTED);
+    CHECK(answer[1] == 1 && answer[2] == 1);
+    CHECK(ds2505_page(image, sizeof image, 1, page, sizeof page)
+          == DS2505_ACCEPTED);
+    CHECK(memcmp(page, bytes, sizeof page) == 0);
+    image[DS2505_STATUS_OFFSET + DS2505_REDIRECTION + 7] = 255 - 200;
+    CHECK(ds2505_walk(image, sizeof image, 7, answer, sizeof answer)
+          == DS2505_REFUSED_OUTSIDE);
+    CHECK(answer[0] == DS2505_NO_EVENT && answer[1] == 200);
+    return 0;
+}
+
+static int number_read(void)
+{
+    unsigned i;
+    uint8_t reply = 1;
+    CHECK(ds2505_chip_power_up(number, sizeof number, chip, sizeof chip)
+          == DS2505_ACCEPTED);
+    CHECK(ds2505_number_start(reader, sizeof reader) == DS2505_ACCEPTED);
+    for (i = 0; i < 75; i++) {
+        replies[i] = reply;
+        CHECK(ds2505_number_call(reader, sizeof reader, reply, answer,
+                                 sizeof answer) == DS2505_ACCEPTED);
+        events[i] = answer[0];
+        if (i < 74)
+            CHECK(ds2505_chip_events(chip, sizeof chip, answer, 1, image,
+                                     sizeof image, &reply, 1)
+                  == DS2505_ACCEPTED);
+    }
+    CHECK(answer[0] == DS2505_NO_EVENT);
+    CHECK(memcmp(answer + 1, number, sizeof number) == 0);
+    CHECK(events[0] == DS2505_EVENT_RESET && events[1] == DS2505_EVENT_SLOT_1);
+    CHECK(events[3] == DS2505_EVENT_SLOT_0);
+    {
+        uint8_t drawn[74];
+        uint8_t told[75];
+        CHECK(ds2505_chip_run(number, sizeof number, events, 74, image,
+                              sizeof image, drawn, sizeof drawn)
+              == DS2505_ACCEPTED);
+        CHECK(memcmp(drawn, replies + 1, sizeof drawn) == 0);
+        memset(answer, 0, sizeof answer);
+        CHECK(ds2505_number_run(replies, 75, told, sizeof told, answer,
+                                sizeof answer) == DS2505_ACCEPTED);
+        CHECK(memcmp(told, events, sizeof told) == 0);
+        CHECK(memcmp(answer + 1, number, sizeof number) == 0);
+    }
+    return 0;
+}
+
+static int page_read(void)
+{
+    size_t calls = 0;
+    uint8_t reply = 0;
+    uint8_t told[2000];
+    CHECK(ds2505_page_start(5, page_reader, sizeof page_reader)
+          == DS2505_ACCEPTED);
+    memset(page, 0, sizeof page);
+    do {
+        replies[calls] = reply;
+        CHECK(ds2505_page_call(page_reader, sizeof page_reader, reply, page,
+                               sizeof page, answer, sizeof answer)
+              == DS2505_ACCEPTED);
+        events[calls++] = answer[0];
+        if (answer[0] != DS2505_NO_EVENT)
+            CHECK(ds2505_chip_events(chip, sizeof chip, answer, 1, image,
+                                     sizeof image, &reply, 1)
+                  == DS2505_ACCEPTED);
+    } while (answer[0] != DS2505_NO_EVENT);
+    CHECK(calls == 388 && answer[1] == 1 && answer[2] == 1);
+    CHECK(memcmp(page, bytes, sizeof page) == 0);
+    memset(page, 0, sizeof page);
+    CHECK(ds2505_page_run(5, replies, calls, told, calls, page, sizeof page,
+                          answer, sizeof answer) == DS2505_ACCEPTED);
+    CHECK(memcmp(told, events, calls) == 0);
+    CHECK(memcmp(page, bytes, sizeof page) == 0);
+    CHECK(answer[1] == 1 && answer[2] == 1);
+    return 0;
+}
+
+static int publish(void)
+{
+    static uint8_t other[DS2505_IMAGE_SIZE];
+    size_t calls = 0;
+    uint8_t reply = 0;
+    uint8_t told[2000];
+    memset(bytes, 0xA5, sizeof bytes);
+    memcpy(other, image, sizeof other);
+    CHECK(ds2505_publisher_start(image, sizeof image, bytes, sizeof bytes, 5,
+                                 publisher, sizeof publisher, answer,
+                                 sizeof answer) == DS2505_ACCEPTED);
+    CHECK(answer[0] == DS2505_NO_EVENT);
+    do {
+        replies[calls] = reply;
+        CHECK(ds2505_publisher_call(publisher, sizeof publisher, reply,
+                                    answer, sizeof answer)
+              == DS2505_ACCEPTED);
+        events[calls++] = answer[0];
+        if (answer[0] != DS2505_NO_EVENT)
+            CHECK(ds2505_chip_events(chip, sizeof chip, answer, 1, image,
+                                     sizeof image, &reply, 1)
+                  == DS2505_ACCEPTED);
+    } while (answer[0] != DS2505_NO_EVENT);
+    CHECK(calls == 1223 && answer[1] == 1 && answer[2] == 2);
+    CHECK(events[1212] == DS2505_EVENT_PULSE);
+    CHECK(memcmp(image + 32 * 2, bytes, sizeof bytes) == 0);
+    CHECK(ds2505_publisher_run(other, sizeof other, bytes, sizeof bytes, 5,
+                               replies, calls, told, calls, answer,
+                               sizeof answer) == DS2505_ACCEPTED);
+    CHECK(memcmp(told, events, calls) == 0);
+    CHECK(answer[1] == 1 && answer[2] == 2);
+    return 0;
+}
+
+static int sheets(void)
+{
+    static uint8_t other[DS2505_IMAGE_SIZE];
+    const char *expected = "pages 64\n1 final 2 hops 1\n5 final 2 hops 2\n"
+                           "7 outside 200\nredirected 3 free 59\n";
+    uint8_t read_number[DS2505_NUMBER_SIZE];
+    size_t length;
+    CHECK(ds2505_sheet_write(number, sizeof number, image, sizeof image, sheet,
+                             sizeof sheet) == DS2505_ACCEPTED);
+    CHECK(ds2505_sheet_read(sheet, sizeof sheet, read_number,
+                            sizeof read_number, other, sizeof other)
+          == DS2505_ACCEPTED);
+    CHECK(memcmp(read_number, number, sizeof number) == 0);
+    CHECK(memcmp(other, image, sizeof image) == 0);
+    CHECK(ds2505_list(sheet, sizeof sheet, text, sizeof text, answer,
+                      sizeof answer) == DS2505_ACCEPTED);
+    length = answer[1] + 256u * answer[2];
+    CHECK(length == strlen(expected));
+    CHECK(memcmp(text, expected, length) == 0);
+    sheet[0] = 63;
+    CHECK(ds2505_list(sheet, sizeof sheet, text, sizeof text, answer,
+                      sizeof answer) == DS2505_REFUSED_SHEET);
+    return 0;
+}
+
+/* A null pointer is allowed with length 0, and is judged by its length. */
+static int nothing(void)
+{
+    CHECK(ds2505_chip_run(NULL, 0, NULL, 0, NULL, 0, NULL, 0) == 10);
+    CHECK(ds2505_chip_run(number, 8, NULL, 0, image, sizeof image, NULL, 0)
+          == 0);
+    CHECK(ds2505_chip_power_up(NULL, 0, NULL, 0) == 10);
+    CHECK(ds2505_chip_events(NULL, 0, NULL, 0, NULL, 0, NULL, 0) == 1);
+    CHECK(ds2505_chip_events(NULL, 0, NULL, 0, image, sizeof image, NULL, 0)
+          == 2);
+    CHECK(ds2505_chip_events(chip, sizeof chip, NULL, 0, image, sizeof image,
+                             NULL, 0) == 0);
+    CHECK(ds2505_walk(NULL, 0, 0, NULL, 0) == 10);
+    CHECK(ds2505_walk(NULL, 0, 0, answer, sizeof answer) == 1);
+    CHECK(ds2505_page(NULL, 0, 0, NULL, 0) == 1);
+    CHECK(ds2505_page(image, sizeof image, 0, NULL, 0) == 10);
+    CHECK(ds2505_free_page(NULL, 0, 0, NULL, 0) == 10);
+    CHECK(ds2505_update(NULL, 0, NULL, 0, NULL, 0, 0, 0, NULL, 0) == 10);
+    CHECK(ds2505_update(NULL, 0, number, 8, NULL, 0, 0, 0, answer,
+                        sizeof answer) == 1);
+    CHECK(ds2505_number_run(NULL, 0, NULL, 0, NULL, 0) == 10);
+    CHECK(ds2505_number_run(NULL, 0, NULL, 0, answer, sizeof answer) == 0);
+    CHECK(answer[0] == DS2505_EVENT_RESET);
+    CHECK(ds2505_number_start(NULL, 0) == 10);
+    CHECK(ds2505_number_call(NULL, 0, 0, NULL, 0) == 10);
+    CHECK(ds2505_number_call(NULL, 0, 0, answer, sizeof answer) == 2);
+    CHECK(ds2505_page_run(0, NULL, 0, NULL, 0, NULL, 0, NULL, 0) == 10);
+    CHECK(ds2505_page_run(0, NULL, 0, NULL, 0, NULL, 0, answer, sizeof answer)
+          == 10);
+    CHECK(ds2505_page_start(0, NULL, 0) == 10);
+    CHECK(ds2505_page_call(NULL, 0, 0, NULL, 0, NULL, 0) == 10);
+    CHECK(ds2505_page_call(page_reader, sizeof page_reader, 0, NULL, 0, answer,
+                           sizeof answer) == 10);
+    CHECK(ds2505_publisher_run(NULL, 0, NULL, 0, 0, NULL, 0, NULL, 0, NULL, 0)
+          == 10);
+    CHECK(ds2505_publisher_run(NULL, 0, NULL, 0, 0, NULL, 0, NULL, 0, answer,
+                               sizeof answer) == 1);
+    CHECK(ds2505_publisher_start(NULL, 0, NULL, 0, 0, NULL, 0, NULL, 0) == 10);
+    CHECK(ds2505_publisher_start(image, sizeof image, NULL, 0, 0, publisher,
+                                 sizeof publisher, answer, sizeof answer)
+          == 10);
+    CHECK(ds2505_publisher_call(NULL, 0, 0, NULL, 0) == 10);
+    CHECK(ds2505_sheet_write(NULL, 0, NULL, 0, NULL, 0) == 10);
+    CHECK(ds2505_sheet_read(NULL, 0, NULL, 0, NULL, 0) == 10);
+    CHECK(ds2505_sheet_read(NULL, 0, number, 8, image, sizeof image) == 12);
+    CHECK(ds2505_list(NULL, 0, NULL, 0, NULL, 0) == 10);
+    CHECK(ds2505_list(NULL, 0, text, sizeof text, answer, sizeof answer)
+          == 12);
+    return 0;
+}
+
+int main(void)
+{
+    if (crcs() || on_an_image() || number_read() || page_read() || publish()
+        || sheets() || nothing())
+        return 1;
+    puts("all 21 functions");
+    return 0;
+}
