@@ -194,9 +194,9 @@ uint32_t ds2505_free_page(const uint8_t *image, size_t image_size,
                           uint8_t other, uint8_t *answer, size_t answer_size);
 
 /* A whole update: a publisher joined to a chip with this number and image, cut
-   after so many events (0 to 1,221), or whole (1,222 or more; each one more
-   costs a call that changes nothing). The image becomes what the events leave;
-   the page reads as before while events is at most 1,212, and as new_page from
+   after so many events (0 to 1,221), or whole (1,222 or more, up to 0xFFFFFFFF,
+   which is no slower). The image becomes what the events leave; the page reads
+   as before while events is at most 1,212, and as new_page from
    1,213 on. With code 0, cut or not, the answer is 0xFF, L (the final page of
    the page given) and T (the page that takes the new bytes); with 5 it is 0xFF
    and the number above 63, with 9 it is 0xFF and L.

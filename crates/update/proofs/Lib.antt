@@ -1,2 +1,3 @@
+mod Ended
 pub mod Joins
 mod Runs

@@ -1,7 +1,7 @@
 -- A whole update on an image: the publisher joined to a chip, and what the image then reads as. n is the page count.
 use Prim.Native.Nat.{ℕ, zero, suc, _<_}
 use mathlib.Core.Path.{_≡_}
-use mathlib.Core.Bool.{true, cond}
+use mathlib.Core.Bool.{Bool, true, false, cond}
 use mathlib.Core.List.{List, [], _∷_}
 use lib.Dec.{ltb}
 use Rattle.terms.specs.Told.{Told, accepted, refusing}
@@ -12,6 +12,8 @@ use Rattle.update_laws.specs.Update.{readOf, moved}
 use Rattle.publisher.specs.declared.Choice.{Choice}
 use Rattle.publisher.specs.declared.Choice.the-variants.{Refused, Accepted}
 use Rattle.publisher.specs.declared.Publisher.{Publisher}
+use Rattle.publisher.specs.declared.Stage.{Stage}
+use Rattle.publisher.specs.declared.Stage.the-variants.{Running, Done, Stopped}
 use Rattle.publisher.specs.Start.{choiceOf, ready}
 use Rattle.chip.specs.Event.{powerUp}
 use Rattle.chip.specs.Run.{Chip, next, lineAt}
@@ -49,6 +51,12 @@ turned n j img = handedOn n (calling n j) (told n (j .publisher) (j .reply)) img
 
 unfoldable pub turnedImage : ℕ → Joined → List ℕ → List ℕ
 turnedImage n j img = handedImage n (calling n j) (told n (j .publisher) (j .reply)) img
+
+-- a publisher that has not ended
+unfoldable pub isRunning : Stage → Bool
+isRunning (Running k good) = true
+isRunning Done = false
+isRunning (Stopped r) = false
 
 -- the image after so many later calls
 unfoldable pub runFor : ℕ → ℕ → Joined → List ℕ → List ℕ

@@ -4,10 +4,11 @@ ghost use Rattle.bus.specs.declared.Event.{Event};
 ghost use Rattle.publisher.specs.Call.{turnTold};
 ghost use Rattle.chip.specs.Event.{eventTold};
 ghost use Rattle.chip.specs.Run.{lineOf};
-ghost use Rattle.update.specs.Update.{reached, reachedImage, handedOn, handedImage, turned, turnedImage, runFor, opened, updateTold, updateAnswer, updatedImage, ReadsAs};
+ghost use Rattle.update.specs.Update.{reached, reachedImage, handedOn, handedImage, turned, turnedImage, isRunning, runFor, opened, updateTold, updateAnswer, updatedImage, ReadsAs};
 use bus::Event;
 use chip::event::State;
 use publisher::Publisher;
+use publisher::Stage;
 use publisher::StartAnswer;
 use terms::address::Page;
 use terms::refusal::Refusal;
@@ -85,13 +86,29 @@ fn turn(j: Joined, image: &mut [u8]) -> Joined
     )
 }
 
-// So many later calls.
+// The publisher has events left, as far as it has been told.
+fn is_running(j: Joined) -> bool
+    ensures { λ r. ⌜ r ≡ isRunning (j .publisher .stage) ⌝ }
+{
+    let publisher = j.publisher;
+    let stage = publisher.stage;
+    match stage {
+        Stage::Running(_, _) => true,
+        Stage::Done => false,
+        Stage::Stopped(_) => false,
+    }
+}
+
+// So many later calls. After its end a publisher tells no further event, so that no more calls are needed.
 fn run(start: Joined, calls: u32, image: &mut [u8])
     ensures { λ r. ⌜ now (image .exit) ≡ runFor 64 calls start (now (image .entry)) ⌝ }
 {
     let mut j = start;
     let mut left = calls;
     while left > 0 {
+        if !is_running(j) {
+            return;
+        }
         j = turn(j, image);
         left -= 1;
     }
