@@ -6,6 +6,14 @@ use tray_tools::tell;
 use tray_tools::text;
 use update::Updated;
 
+// What a whole update told goes into a digest.
+pub fn tell_updated(d: &mut u64, u: Updated) {
+    match u {
+        Updated::Refused(r) => tell::refusal(d, r),
+        Updated::Ran(l, t) => tell::three(d, 16, l.0, t.0),
+    }
+}
+
 fn image_for(blank: bool, g: &mut u64, image: &mut [u8; 2368]) {
     if blank {
         fill::blank(image);
@@ -30,7 +38,7 @@ fn case(
     let page = draw::low(draw::below(&mut g, 64));
     let number = draw::number_bytes(&mut g);
     let calls = (events % 10000) as u32;
-    tell::updated(
+    tell_updated(
         &mut d,
         update::update(image, number, new, Page(page), calls),
     );

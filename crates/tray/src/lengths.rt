@@ -35,7 +35,7 @@ fn readers(image: &[u8], page: u8, d: &mut u64) {
 fn lent(image: &mut [u8], bytes: &mut [u8], number: [u8; 8], page: u8, d: &mut u64) {
     tell::judged(d, chip::page::copy(image, Page(page), bytes));
     start(image, bytes, page, d);
-    tell::updated(d, update::update(image, number, bytes, Page(page), 1300));
+    crate::cut::tell_updated(d, update::update(image, number, bytes, Page(page), 1300));
 }
 
 fn event(state: State, code: u8, image: &mut [u8], d: &mut u64) -> State {

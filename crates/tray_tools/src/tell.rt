@@ -8,7 +8,6 @@ use publisher::StartAnswer;
 use terms::refusal::Judged;
 use terms::refusal::Refusal;
 use terms::verdict::Verdict;
-use update::Updated;
 
 // What a digest starts from.
 pub const START: u64 = 0x9E37_79B9_7F4A_7C15;
@@ -118,12 +117,5 @@ pub fn started(d: &mut u64, answer: StartAnswer) {
     match answer {
         StartAnswer::Refused(r) => refusal(d, r),
         StartAnswer::Ready => byte(d, 16),
-    }
-}
-
-pub fn updated(d: &mut u64, u: Updated) {
-    match u {
-        Updated::Refused(r) => refusal(d, r),
-        Updated::Ran(l, t) => three(d, 16, l.0, t.0),
     }
 }
