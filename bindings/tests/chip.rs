@@ -166,7 +166,7 @@ fn tray() {
         replies[sent..].to_vec()
     };
 
-    // Start 07FFh: one byte, then CRC. Start 0800h: silent.
+    // Start 07FFh: one byte, then CRC. Start 0800h: a read from 0000h.
     let mut image = blank_image();
     image[0x7FF] = 0x3C;
     let replies = read(&mut image, &[0xCC, 0xF0, 0xFF, 0x07], 32);
@@ -177,7 +177,13 @@ fn tray() {
         crc.to_le_bytes()
     );
     assert_eq!(byte_of(&replies[24..]), 0xFF);
-    let replies = read(&mut image, &[0xCC, 0xF0, 0x00, 0x08], 32);
+    image[0] = 0x96;
+    let from_0800 = read(&mut image, &[0xCC, 0xF0, 0x00, 0x08], 8 * 2050);
+    let from_0000 = read(&mut image, &[0xCC, 0xF0, 0x00, 0x00], 8 * 2050);
+    assert_eq!(byte_of(&from_0800), 0x96);
+    assert_eq!(from_0800, from_0000);
+    // A status address that is too high even so: silent.
+    let replies = read(&mut image, &[0xCC, 0xAA, 0x40, 0x09], 32);
     assert_eq!(replies, [true; 32]);
 
     // 0Fh over F0h gives 00h; FFh over 5Ah gives 5Ah; over a protected 5Ah, 0Fh

@@ -14,6 +14,9 @@ use crate::memory::{
 };
 use crate::refusal::Refusal;
 
+/// The bits of a start address that the chip keeps.
+const KEPT_ADDRESS_BITS: u16 = 0x07FF;
+
 /// What can happen to a chip.
 #[derive(Clone, Copy, Debug, PartialEq, Eq)]
 pub enum Event {
@@ -307,8 +310,10 @@ impl Chip {
         }
     }
 
-    /// The stage after the last bit of an address.
-    fn begin_memory_command(&self, command: MemoryCommand, number: u16) -> Stage {
+    /// The stage after the last bit of an address. The chip sets the five
+    /// highest bits to 0 before address counter and CRC generator get them.
+    fn begin_memory_command(&self, command: MemoryCommand, sent: u16) -> Stage {
+        let number = sent & KEPT_ADDRESS_BITS;
         let [low, high] = low_high(number);
         let heading = [command.byte(), low, high];
         match command {

@@ -167,22 +167,90 @@ fn unknown_commands_silence() {
 }
 
 #[test]
-fn start_addresses_beyond_the_end() {
+fn start_addresses_keep_eleven_bits() {
     for command in MEMORY_COMMANDS {
         let last: u16 = match command {
             0xAA | 0x55 => 0x13F,
             _ => 0x7FF,
         };
-        for address in [0, last, last + 1, 0x1000, 0x8000, 0xFFFF] {
-            let mut chip = blank_chip();
-            begin(&mut chip, &[command]);
-            let bits = bits_of(&address.to_le_bytes());
-            send_bits(&mut chip, &bits[..15]);
-            assert_ne!(chip.stage, Stage::Silent);
-            send_bits(&mut chip, &bits[15..]);
-            assert_eq!(chip.stage == Stage::Silent, address > last);
+        for address in [
+            0, 0x13F, 0x140, 0x7FF, 0x800, 0x93F, 0x940, 0x1000, 0x8000, 0xF93F, 0xFFFF,
+        ] {
+            let after = |address: u16| {
+                let mut chip = blank_chip();
+                begin(&mut chip, &[command]);
+                let bits = bits_of(&address.to_le_bytes());
+                send_bits(&mut chip, &bits[..15]);
+                assert_ne!(chip.stage, Stage::Silent);
+                send_bits(&mut chip, &bits[15..]);
+                chip.stage
+            };
+            let kept = address % 0x800;
+            assert_eq!(after(address), after(kept));
+            assert_eq!(after(address) == Stage::Silent, kept > last);
         }
     }
+}
+
+/// The CRC is over the address as the chip keeps it, so a master that compares
+/// it with the address as sent finds out, exactly if a bit was dropped.
+#[test]
+fn dropped_bits_are_noticed() {
+    let mut generator = Generator::new(100);
+    let mut image = used_image(&mut generator);
+    image[0x7E5..0x7E8].copy_from_slice(&[1, 2, 3]);
+    for high in 0..=0xFF {
+        let kept = high % 8;
+        let fits = |crc: Vec<u8>, command: u8, low: u8, bytes: &[u8]| {
+            let over = |high: u8| crc16_sent(&[&[command, low, high], bytes].concat());
+            assert_eq!(crc, over(kept));
+            crc == over(high)
+        };
+        let mut chip = chip_with(image.clone());
+        begin(&mut chip, &[0xF0, 0xF0, high]);
+        let bytes = read(&mut chip, 0x800 - (usize::from(kept) * 256 + 0xF0));
+        assert_eq!(fits(read(&mut chip, 2), 0xF0, 0xF0, &bytes), high < 8);
+        begin(&mut chip, &[0xA5, 0xE5, high]);
+        let byte = read(&mut chip, 1);
+        assert_eq!(fits(read(&mut chip, 2), 0xA5, 0xE5, &byte), high < 8);
+        begin(&mut chip, &[0x0F, 0x21, high, 0x5A]);
+        assert_eq!(fits(read(&mut chip, 2), 0x0F, 0x21, &[0x5A]), high < 8);
+        // The status memory has addresses up to 13Fh: from any other the chip
+        // is silent and sends no CRC.
+        if kept < 2 {
+            begin(&mut chip, &[0xAA, 0x3C, high]);
+            let bytes = read(&mut chip, 4);
+            assert_eq!(fits(read(&mut chip, 2), 0xAA, 0x3C, &bytes), high < 8);
+            begin(&mut chip, &[0x55, 0x02, high, 0xFE]);
+            assert_eq!(fits(read(&mut chip, 2), 0x55, 0x02, &[0xFE]), high < 8);
+        } else {
+            begin(&mut chip, &[0xAA, 0x3C, high]);
+            assert_silent(&mut chip);
+            begin(&mut chip, &[0x55, 0x02, high, 0xFE]);
+            assert_silent(&mut chip);
+        }
+    }
+}
+
+/// A chip that a status address silences sends no CRC, and a master reads ones.
+/// These never pass for a block of status bytes, but for some addresses and
+/// bytes they are the CRC that the master of a write expects.
+#[test]
+fn ones_in_place_of_a_crc() {
+    let silenced = || (0..=0xFFFF_u16).filter(|address| address % 0x800 >= 0x140);
+    let sent_as_ones = |bytes: &[u8]| crc16_sent(bytes) == [0xFF, 0xFF];
+    let blocks = silenced().filter(|address| {
+        let [low, high] = address.to_le_bytes();
+        let mut bytes = vec![0xAA, low, high];
+        bytes.resize(3 + 8 - usize::from(low % 8), 0xFF);
+        sent_as_ones(&bytes)
+    });
+    assert_eq!(blocks.count(), 0);
+    let writes = silenced().flat_map(|address| {
+        let [low, high] = address.to_le_bytes();
+        (0..=0xFF).filter(move |&byte| sent_as_ones(&[0x55, low, high, byte]))
+    });
+    assert_eq!(writes.count(), 256);
 }
 
 #[test]
@@ -194,7 +262,12 @@ fn read_memory_from_its_last_byte() {
     assert_eq!(read_byte(&mut chip), 0x3C);
     assert_eq!(read(&mut chip, 2), crc16_sent(&[0xF0, 0xFF, 0x07, 0x3C]));
     assert_silent(&mut chip);
+    // Start 0800h: a read from 0000h, with that address in the CRC.
     begin(&mut chip, &[0xF0, 0x00, 0x08]);
+    let data = read(&mut chip, 0x800);
+    assert_eq!(data, chip.image[..0x800]);
+    let crc = crc16_sent(&[&[0xF0, 0x00, 0x00], &data[..]].concat());
+    assert_eq!(read(&mut chip, 2), crc);
     assert_silent(&mut chip);
 }
 

@@ -78,10 +78,16 @@ fn starts_at_the_end_and_beyond() {
     assert_eq!(read_byte(&mut chip), 0xFF);
     assert_eq!(read(&mut chip, 2), crc16_sent(&[0xF0, 0xFF, 0x07, 0xFF]));
     assert_silent(&mut chip);
-    for command in [0xF0, 0xA5, 0x0F] {
-        begin(&mut chip, &[command, 0x00, 0x08]);
-        assert_silent(&mut chip);
-    }
+    // Start 0800h is a read from 0000h.
+    let mut image = blank_image();
+    image[0] = 0x3C;
+    let mut chip = chip_with(image);
+    begin(&mut chip, &[0xF0, 0x00, 0x08]);
+    assert_eq!(read_byte(&mut chip), 0x3C);
+    begin(&mut chip, &[0xA5, 0x00, 0x08]);
+    assert_eq!(read_byte(&mut chip), 0xFF);
+    assert_eq!(read(&mut chip, 2), crc16_sent(&[0xA5, 0x00, 0x00, 0xFF]));
+    assert_eq!(read_byte(&mut chip), 0x3C);
 }
 
 #[test]

@@ -192,11 +192,13 @@ fn add_selection(g: &mut Generator, number: [u8; 8], events: &mut Vec<Event>) {
 
 /// An address, often near an end of something.
 fn some_address(g: &mut Generator, status: bool) -> u16 {
-    match g.below(8) {
+    match g.below(9) {
         0 => g.below(0x1_0000) as u16,
         1 => [0x000, 0x7FF, 0x800, 0x13F, 0x140, 0x0FF, 0x100, 0xFFFF][g.below(8) as usize],
         2 => 0x7C0 + g.below(0x44) as u16,
         3 => 0x120 + g.below(0x24) as u16,
+        // With any of the five bits that the chip drops.
+        4 => (0x800 * g.below(32) + g.below(0x148)) as u16,
         _ if status => g.below(0x140) as u16,
         _ => g.below(0x800) as u16,
     }

@@ -1,5 +1,6 @@
 pub mod Bus
 pub mod Ds2505
+pub mod Notices
 pub mod Runs
 pub mod Sessions
 pub mod Slots

@@ -1,12 +1,12 @@
 -- ROM commands and the commands that read, over whole sessions.
 use Prim.Native.Nat.{ℕ, zero, suc, _+_, _*_, _/_, _%_, _<_, _≤_}
 use mathlib.Core.Path.{_≡_, refl, ap, _∙_}
-use mathlib.Core.Bool.{Bool, false, not}
+use mathlib.Core.Bool.{Bool, true, false, not, cond}
 use mathlib.Core.List.{List, [], _∷_, _++_, append-nil}
 use native.Mathlib.Omega.{arith}
 use lib.Dec.{eqb, lit<}
 use lib.ListN.{length, length-append}
-use borrow.Author.Tests.{le-ltb}
+use borrow.Author.Tests.{le-ltb, ltb-true}
 use Rattle.terms.specs.Bits.{bitsOf, bitsOfBytes}
 use Rattle.terms.specs.declared.address.Space.{Space}
 use Rattle.terms.specs.declared.address.Space.the-variants.{Data, Status}
@@ -21,19 +21,21 @@ use Rattle.rom_laws.proofs.Sessions.{rom-laws}
 use Rattle.memory_function.specs.declared.stage.Command.{Command}
 use Rattle.memory_function.specs.declared.stage.Command.the-variants.{ReadMemory, ReadStatus, ExtendedRead, Write}
 use Rattle.memory_function.specs.declared.stage.Incoming.the-variants.{Command as CommandByte, AddressLow, AddressHigh}
+use Rattle.memory_function.specs.declared.stage.MemoryStage.{MemoryStage}
 use Rattle.memory_function.specs.declared.stage.MemoryStage.the-variants.{Silent}
-use Rattle.memory_function.specs.Limits.{limitOf, isAddress}
+use Rattle.memory_function.specs.Limits.{limitOf, isAddress, keptAddress}
 use Rattle.memory_function.specs.Reads.{startMemory, startStatus, startExtended}
 use Rattle.memory_function.specs.Writes.{startWrite}
-use Rattle.memory_function.specs.Functions.{beginning, memoryCommand, addressed, received}
+use Rattle.memory_function.specs.Functions.{beginning, memoryCommand, addressed, startedAt, received}
 use Rattle.function_laws.specs.Streams.{header}
-use Rattle.function_laws.specs.Reads.{Sends}
+use Rattle.function_laws.specs.Reads.{Sends, none}
+use Rattle.function_laws.proofs.Addresses.{kept-low}
 use Rattle.function_laws.proofs.Sessions.{read-laws}
 use Rattle.chip.specs.declared.event.Stage.the-variants.{Rom, Memory}
 use Rattle.chip.specs.Event.{silent, awaitingRom, awaitingMemory, leading, replyOf, imageAfter, stageAfter}
 use Rattle.chip.specs.Run.{Chip}
 use Rattle.chip_laws.specs.Session.{Ready, _at_, Goes, Selection, skip, read, matched, searched, thenOnes, writeCommand}
-use Rattle.chip_laws.specs.Laws.{RomLaws, Draws, ReadLaws, SilenceLaws}
+use Rattle.chip_laws.specs.Laws.{RomLaws, Draws, ReadLaws, Silenced, SilenceLaws}
 use Rattle.chip_laws.proofs.Runs.{_then_, further, event}
 use Rattle.chip_laws.proofs.Slots.{slots-append, lines-ones, bits-length, ready, over-rom, draws-stream, byte-in}
 
@@ -106,23 +108,33 @@ module _ (n : ℕ) (whole : n % 8 ≡ 0) where
   parts : (a : ℕ) → a % 256 + 256 * (a / 256) ≡ a
   parts a = omega arith
 
+  -- the CRC has taken in the low byte as sent, which is the kept address's own, and then the high byte as kept
   pub header-in : (c : Chip) (command : Command) (byte a : ℕ) → byte < 256 → memoryCommand byte ≡ beginning command byte → a < 65536 → Ready n (c at awaitingMemory)
       → Goes n (c at awaitingMemory) (slots (bitsOfBytes (header byte a))) (bitsOfBytes (header byte a))
-      (c at Memory (addressed n command a (crc16Of (header byte a)) (c .image)))
-  unfolding bitsOfBytes received beginning crcBytes
+      (c at Memory (addressed n command (keptAddress n a) (crc16Of (header byte (keptAddress n a))) (c .image)))
+  unfolding bitsOfBytes received startedAt beginning crcBytes
   header-in c command byte a lt e la ok =
       let first = rw e at (byte-in n whole c CommandByte 0 byte lt ok) in
       let ok₁ = ready n whole ok first in
       let second = byte-in n whole c (AddressLow command) (crc16Byte 0 byte) (a % 256) (omega arith) ok₁ in
       let ok₂ = ready n whole ok₁ second in
       let third = rw (parts a) at (byte-in n whole c (AddressHigh command (a % 256)) (crc16Byte (crc16Byte 0 byte) (a % 256)) (a / 256) (omega arith) ok₂) in
-      simp (append-nil, slots-append) (first then second then third)
+      rw (kept-low n a) (simp (append-nil, slots-append) (first then second then third))
 
   -- ---- the commands that read
 
+  -- a session up to the address
+  pub up-to-address : (c : Chip) {ms ls : List Bool} (command : Command) (byte a : ℕ) → Ready n c → Selection (c .state .number) ms ls
+      → byte < 256 → memoryCommand byte ≡ beginning command byte → a < 65536
+      → Goes n c (Reset ∷ slots (ms ++ bitsOfBytes (header byte a))) (false ∷ (ls ++ bitsOfBytes (header byte a)))
+      (c at Memory (addressed n command (keptAddress n a) (crc16Of (header byte (keptAddress n a))) (c .image)))
+  up-to-address c {ms} command byte a ok sel lt e la =
+      let first = selects c ok sel in
+      rw (slots-append ms (bitsOfBytes (header byte a))) (first then header-in c command byte a lt e la (ready n whole ok first))
+
   draws : (c : Chip) {ms ls : List Bool} (command : Command) (byte a : ℕ) {stream : List Bool} → Ready n c → Selection (c .state .number) ms ls
       → byte < 256 → memoryCommand byte ≡ beginning command byte → a < 65536
-      → Sends n (c .image) (addressed n command a (crc16Of (header byte a)) (c .image)) stream Silent
+      → Sends n (c .image) (addressed n command (keptAddress n a) (crc16Of (header byte (keptAddress n a))) (c .image)) stream Silent
       → Draws n c ms ls (header byte a) stream
   draws c {ms} {ls} command byte a {stream} ok sel lt e la sends rs =
       let sent = bitsOfBytes (header byte a) in
@@ -133,25 +145,30 @@ module _ (n : ℕ) (whole : n % 8 ≡ 0) where
       rw (slots-append ms (sent ++ rs), slots-append sent rs)
       (further (slots sent ++ slots rs) (sent ++ line) first (further (slots rs) line second (draws-stream n whole c rs sends (ready n whole ok₁ second))))
 
+  -- a stream from an address of the memory, and silence from any other
+  from-address : {img : List ℕ} {m : MemoryStage} {stream : List Bool} (t : Bool) → (t ≡ true → Sends n img m stream Silent) → (t ≡ false → m ≡ Silent)
+      → Sends n img m (cond t stream []) Silent
+  from-address true f z = f refl
+  from-address {img} false f z = rw (z refl) none
+
+  -- an address, or none
+  is-in : (space : Space) (a : ℕ) → isAddress n space a ≡ true → a < limitOf n space
+  unfolding isAddress
+  is-in space a t = ltb-true a (limitOf n space) t
+
   pub read-sessions : n ≤ 256 → ReadLaws n
-  unfolding memoryCommand addressed
+  unfolding memoryCommand addressed startMemory startStatus startExtended limitOf
   read-sessions low =
       record {
-        memory = λ c a ok sel lt. draws c ReadMemory 0xF0 a ok sel (lit< tt) refl (omega arith) (read-laws n whole low .memory (c .image) a lt);
-        status = λ c a ok sel lt. draws c ReadStatus 0xAA a ok sel (lit< tt) refl (omega arith) (read-laws n whole low .status (c .image) a lt);
-        extended = λ c a ok sel lt. draws c ExtendedRead 0xA5 a ok sel (lit< tt) refl (omega arith) (read-laws n whole low .extended (c .image) a lt);
+        memory = λ c a ok sel lt. draws c ReadMemory 0xF0 a ok sel (lit< tt) refl lt
+            (from-address (isAddress n Data (keptAddress n a)) (λ t. read-laws n whole low .memory (c .image) (keptAddress n a) (is-in Data _ t)) (λ t. simp t));
+        status = λ c a ok sel lt. draws c ReadStatus 0xAA a ok sel (lit< tt) refl lt
+            (from-address (isAddress n Status (keptAddress n a)) (λ t. read-laws n whole low .status (c .image) (keptAddress n a) (is-in Status _ t)) (λ t. simp t));
+        extended = λ c a ok sel lt. draws c ExtendedRead 0xA5 a ok sel (lit< tt) refl lt
+            (from-address (isAddress n Data (keptAddress n a)) (λ t. read-laws n whole low .extended (c .image) (keptAddress n a) (is-in Data _ t)) (λ t. simp t));
       }
 
   -- ---- what silences the chip
-
-  -- a session up to the address
-  pub up-to-address : (c : Chip) {ms ls : List Bool} (command : Command) (byte a : ℕ) → Ready n c → Selection (c .state .number) ms ls
-      → byte < 256 → memoryCommand byte ≡ beginning command byte → a < 65536
-      → Goes n c (Reset ∷ slots (ms ++ bitsOfBytes (header byte a))) (false ∷ (ls ++ bitsOfBytes (header byte a)))
-      (c at Memory (addressed n command a (crc16Of (header byte a)) (c .image)))
-  up-to-address c {ms} command byte a ok sel lt e la =
-      let first = selects c ok sel in
-      rw (slots-append ms (bitsOfBytes (header byte a))) (first then header-in c command byte a lt e la (ready n whole ok first))
 
   no-address : (space : Space) (a : ℕ) → limitOf n space ≤ a → isAddress n space a ≡ false
   unfolding isAddress
@@ -159,18 +176,18 @@ module _ (n : ℕ) (whole : n % 8 ≡ 0) where
 
   too-high : (c : Chip) {ms ls : List Bool} (command : Command) (byte a : ℕ) → Ready n c → Selection (c .state .number) ms ls
       → byte < 256 → memoryCommand byte ≡ beginning command byte → a < 65536
-      → addressed n command a (crc16Of (header byte a)) (c .image) ≡ Silent
-      → Goes n c (Reset ∷ slots (ms ++ bitsOfBytes (header byte a))) (false ∷ (ls ++ bitsOfBytes (header byte a))) (c at silent)
+      → addressed n command (keptAddress n a) (crc16Of (header byte (keptAddress n a))) (c .image) ≡ Silent
+      → Silenced n c ms ls byte a
   too-high c command byte a ok sel lt e la z = rw z at (up-to-address c command byte a ok sel lt e la)
 
-  write-too-high : (c : Chip) {ms ls : List Bool} (a : ℕ) → Ready n c → Selection (c .state .number) ms ls → a < 65536 → (space : Space) → limitOf n space ≤ a
-      → Goes n c (Reset ∷ slots (ms ++ bitsOfBytes (header (writeCommand space) a))) (false ∷ (ls ++ bitsOfBytes (header (writeCommand space) a))) (c at silent)
+  write-too-high : (c : Chip) {ms ls : List Bool} (a : ℕ) → Ready n c → Selection (c .state .number) ms ls → a < 65536
+      → (space : Space) → limitOf n space ≤ keptAddress n a → Silenced n c ms ls (writeCommand space) a
   unfolding memoryCommand addressed startWrite
-  write-too-high c a ok sel la Data le = too-high c (Write Data) 0x0F a ok sel (lit< tt) refl la (simp (no-address Data a le))
-  write-too-high c a ok sel la Status le = too-high c (Write Status) 0x55 a ok sel (lit< tt) refl la (simp (no-address Status a le))
+  write-too-high c a ok sel la Data le = too-high c (Write Data) 0x0F a ok sel (lit< tt) refl la (simp (no-address Data (keptAddress n a) le))
+  write-too-high c a ok sel la Status le = too-high c (Write Status) 0x55 a ok sel (lit< tt) refl la (simp (no-address Status (keptAddress n a) le))
 
   pub silences : SilenceLaws n
-  unfolding memoryCommand addressed startMemory startStatus startExtended received limitOf
+  unfolding memoryCommand addressed startMemory startStatus startExtended received
   silences =
       record {
         unknown = λ c {ms} {ls} byte ok sel lt h₁ h₂ h₃ h₄ h₅.
@@ -178,9 +195,11 @@ module _ (n : ℕ) (whole : n % 8 ≡ 0) where
             let e : memoryCommand byte ≡ Silent = simp (h₁, h₂, h₃, h₄, h₅) in
             rw (slots-append ms (bitsOf 8 byte)) (first then rw e at (byte-in n whole c CommandByte 0 byte lt (ready n whole ok first)));
         too-high = λ c {ms} {ls} a ok sel la. (
-          (λ le. too-high c ReadMemory 0xF0 a ok sel (lit< tt) refl la (simp (no-address Data a le))),
-          (λ le. too-high c ReadStatus 0xAA a ok sel (lit< tt) refl la (simp (no-address Status a le))),
-          (λ le. too-high c ExtendedRead 0xA5 a ok sel (lit< tt) refl la (simp (no-address Data a le))),
+          (λ le. (
+            too-high c ReadMemory 0xF0 a ok sel (lit< tt) refl la (simp (no-address Data (keptAddress n a) le)),
+            too-high c ExtendedRead 0xA5 a ok sel (lit< tt) refl la (simp (no-address Data (keptAddress n a) le)),
+          )),
+          (λ le. too-high c ReadStatus 0xAA a ok sel (lit< tt) refl la (simp (no-address Status (keptAddress n a) le))),
           write-too-high c a ok sel la,
         );
       }

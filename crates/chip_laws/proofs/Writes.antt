@@ -21,12 +21,14 @@ use Rattle.memory_function.specs.declared.stage.Incoming.the-variants.{Data as 
 use Rattle.memory_function.specs.declared.stage.Outgoing.the-variants.{WriteCrc, ReadBack}
 use Rattle.memory_function.specs.declared.stage.MemoryStage.{MemoryStage}
 use Rattle.memory_function.specs.declared.stage.MemoryStage.the-variants.{Armed}
-use Rattle.memory_function.specs.Limits.{limitOf, isAddress, targetAt}
+use Rattle.memory_function.specs.Limits.{limitOf, isAddress, keptAddress, targetAt}
+use Rattle.memory_function.proofs.Addresses.{limit-fits}
 use Rattle.memory_function.specs.Stages.{receiving}
 use Rattle.memory_function.specs.Writes.{startWrite, raised, nextWrite, readingBack}
 use Rattle.memory_function.specs.Functions.{received, sent, memoryCommand, addressed, pulseImage, pulseStage}
 use Rattle.function_laws.specs.Streams.{header}
 use Rattle.function_laws.specs.Writes.{writtenFrom}
+use Rattle.function_laws.proofs.Addresses.{address-laws}
 use Rattle.function_laws.proofs.Sending.{byte-out, crc-out}
 use Rattle.chip.specs.declared.event.Stage.the-variants.{Memory}
 use Rattle.chip.specs.Event.{replyOf, imageAfter, stageAfter, pulseImageOf, stagePulse}
@@ -106,28 +108,33 @@ module _ (n : ℕ) (whole : n % 8 ≡ 0) where
       let last : a + 1 + suc (length bytes) ≡ a + suc (suc (length bytes)) = omega arith in
       first then rw last at rest
 
-  pub limit-low : n ≤ 256 → (space : Space) → limitOf n space ≤ 65536
-  unfolding limitOf
-  limit-low low Data = omega arith
-  limit-low low Status = omega arith
+  -- the command and its address, which is one of the memory as the chip keeps it
+  pub starts : (space : Space) (a : ℕ) (c : Chip) {ms ls : List Bool} → Ready n c → Selection (c .state .number) ms ls → a < 65536 → keptAddress n a < limitOf n space
+      → Goes n c (Reset ∷ slots (ms ++ bitsOfBytes (header (writeCommand space) a))) (false ∷ (ls ++ bitsOfBytes (header (writeCommand space) a)))
+      (c at Memory (receiving (DataByte (targetAt space (keptAddress n a))) (crc16Of (header (writeCommand space) (keptAddress n a)))))
+  unfolding memoryCommand addressed startWrite isAddress
+  starts Data a c ok sel la lt = rw (lt-ltb (keptAddress n a) (limitOf n Data) lt) at (up-to-address n whole c (Write Data) 0x0F a ok sel (lit< tt) refl la)
+  starts Status a c ok sel la lt = rw (lt-ltb (keptAddress n a) (limitOf n Status) lt) at (up-to-address n whole c (Write Status) 0x55 a ok sel (lit< tt) refl la)
 
-  pub is-write : (space : Space) (a : ℕ) (c : Chip) {ms ls : List Bool} → Ready n c → Selection (c .state .number) ms ls → a < 65536 → a < limitOf n space
+  -- an address of the memory is kept as it is
+  pub is-write : n ≤ 256 → (space : Space) (a : ℕ) (c : Chip) {ms ls : List Bool} → Ready n c → Selection (c .state .number) ms ls → a < limitOf n space
       → Goes n c (Reset ∷ slots (ms ++ bitsOfBytes (header (writeCommand space) a))) (false ∷ (ls ++ bitsOfBytes (header (writeCommand space) a)))
       (c at Memory (receiving (DataByte (targetAt space a)) (crc16Of (header (writeCommand space) a))))
-  unfolding memoryCommand addressed startWrite isAddress
-  is-write Data a c ok sel la lt = rw (lt-ltb a (limitOf n Data) lt) at (up-to-address n whole c (Write Data) 0x0F a ok sel (lit< tt) refl la)
-  is-write Status a c ok sel la lt = rw (lt-ltb a (limitOf n Status) lt) at (up-to-address n whole c (Write Status) 0x55 a ok sel (lit< tt) refl la)
+  is-write low space a c ok sel lt =
+      let own = address-laws n low .own space a lt in
+      rw own at (starts space a c ok sel (omega (arith, limit-fits n space low)) (rw own lt))
 
-  writes : n ≤ 256 → (c : Chip) {ms ls : List Bool} (space : Space) (a : ℕ) (bytes : List ℕ) → Ready n c → Selection (c .state .number) ms ls
-      → a + length bytes ≤ limitOf n space → ((i : ℕ) → i < length bytes → getD bytes i 0 < 256) → 0 < length bytes
+  writes : (c : Chip) {ms ls : List Bool} (space : Space) (a : ℕ) (bytes : List ℕ) → Ready n c → Selection (c .state .number) ms ls
+      → a < 65536 → let k = keptAddress n a in
+      k + length bytes ≤ limitOf n space → ((i : ℕ) → i < length bytes → getD bytes i 0 < 256) → 0 < length bytes
       → Goes n c
       (Reset ∷ (slots (ms ++ bitsOfBytes (header (writeCommand space) a)) ++ writeEvents bytes))
-      (false ∷ ((ls ++ bitsOfBytes (header (writeCommand space) a)) ++ writeLines n (c .image) space a (crc16Of (header (writeCommand space) a)) bytes))
-      ((c at beforeByte n space (a + length bytes)) holding writtenFrom n (c .image) space a bytes)
-  writes low c space a [] ok sel le small some = absurd (omega arith)
-  writes low c space a (byte ∷ bytes) ok sel le small some =
-      let first = is-write space a c ok sel (omega (arith, limit-low low space)) (omega arith) in
-      first then write-bytes c space a (crc16Of (header (writeCommand space) a)) byte bytes le small (ready n whole ok first)
+      (false ∷ ((ls ++ bitsOfBytes (header (writeCommand space) a)) ++ writeLines n (c .image) space k (crc16Of (header (writeCommand space) k)) bytes))
+      ((c at beforeByte n space (k + length bytes)) holding writtenFrom n (c .image) space k bytes)
+  writes c space a [] ok sel la le small some = absurd (omega arith)
+  writes c space a (byte ∷ bytes) ok sel la le small some =
+      let first = starts space a c ok sel la (omega arith) in
+      first then write-bytes c space (keptAddress n a) (crc16Of (header (writeCommand space) (keptAddress n a))) byte bytes le small (ready n whole ok first)
 
-pub write-sessions : (n : ℕ) → n % 8 ≡ 0 → n ≤ 256 → WriteLaws n
-write-sessions n whole low = record { write = writes n whole low }
+pub write-sessions : (n : ℕ) → n % 8 ≡ 0 → WriteLaws n
+write-sessions n whole = record { write = writes n whole }

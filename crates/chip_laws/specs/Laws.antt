@@ -1,25 +1,26 @@
 -- What the chip does over whole sessions, in the data sheet's terms, over the page count n.
-use Prim.Native.Nat.{ℕ, _+_, _-_, _<_, _≤_}
+use Prim.Native.Nat.{ℕ, _+_, _-_, _*_, _%_, _^_, _<_, _≤_}
 use mathlib.Core.Path.{_≡_}
-use mathlib.Core.Bool.{Bool, true, false, not, _&&_}
+use mathlib.Core.Bool.{Bool, true, false, not, cond, _&&_}
 use mathlib.Core.List.{List, [], _∷_, _++_, map}
 use lib.ListN.{length, getD}
 use lib.Dec.{eqb}
 use Rattle.terms.specs.Bits.{bitsOf, bitsOfBytes}
 use Rattle.terms.specs.Told.{accepted}
 use Rattle.terms.specs.declared.address.Space.{Space}
+use Rattle.terms.specs.declared.address.Space.the-variants.{Data, Status}
 use Rattle.terms.specs.declared.address.Target.{Target}
 use Rattle.bus.specs.declared.Event.{Event}
 use Rattle.bus.specs.declared.Event.the-variants.{Reset, Slot, Pulse, PowerLoss}
-use Rattle.bus.specs.Slots.{slots, lines}
+use Rattle.bus.specs.Slots.{slots, ones, reading, lines}
 use Rattle.crc.specs.Crc.{crc16Of}
-use Rattle.memory.specs.Layout.{dataSize, statusSize, imageSize}
+use Rattle.memory.specs.Layout.{imageSize}
 use Rattle.memory.specs.Write.{programmed}
 use Rattle.memory_function.specs.declared.stage.MemoryStage.the-variants.{Silent, Receive, Send, Armed}
-use Rattle.memory_function.specs.Limits.{limitOf}
+use Rattle.memory_function.specs.Limits.{limitOf, isAddress, addressBits, keptAddress}
 use Rattle.rom_function.specs.Rom.{numberBit}
 use Rattle.rom_laws.specs.Rom.{Ask, numberBits, searchBits, searchSent}
-use Rattle.function_laws.specs.Streams.{header, memoryStream, statusStream, extendedStream}
+use Rattle.function_laws.specs.Streams.{crcOf, header, memoryStream, statusStream, extendedStream}
 use Rattle.function_laws.specs.Writes.{writtenFrom}
 use Rattle.chip.specs.declared.event.Stage.{Stage}
 use Rattle.chip.specs.declared.event.Stage.the-variants.{Rom, Memory}
@@ -99,34 +100,84 @@ abbrev pub Draws : ℕ → Chip → List Bool → List Bool → List ℕ → Lis
 Draws n c ms ls sent stream = (rs : List Bool)
     → answers n c (Reset ∷ slots (ms ++ (bitsOfBytes sent ++ rs))) ≡ map accepted (false ∷ (ls ++ (bitsOfBytes sent ++ lines rs (thenOnes stream (length rs)))))
 
+-- what is sent from a start address: a stream from the address as the chip keeps it, or nothing where the memory does not have that
+abbrev pub startingAt : ℕ → Space → ℕ → (ℕ → List Bool) → List Bool
+startingAt n space a stream = cond (isAddress n space (keptAddress n a)) (stream (keptAddress n a)) []
+
+-- for every start address of sixteen bits
 pub record ReadLaws (n : ℕ) : Type 0 where
-  pub memory : (c : Chip) {ms ls : List Bool} (a : ℕ) → Ready n c → Selection (c .state .number) ms ls → a < dataSize n
-      → Draws n c ms ls (header 0xF0 a) (memoryStream n (c .image) a)
-  pub status : (c : Chip) {ms ls : List Bool} (a : ℕ) → Ready n c → Selection (c .state .number) ms ls → a < statusSize n
-      → Draws n c ms ls (header 0xAA a) (statusStream n (c .image) a)
-  pub extended : (c : Chip) {ms ls : List Bool} (a : ℕ) → Ready n c → Selection (c .state .number) ms ls → a < dataSize n
-      → Draws n c ms ls (header 0xA5 a) (extendedStream n (c .image) a)
+  pub memory : (c : Chip) {ms ls : List Bool} (a : ℕ) → Ready n c → Selection (c .state .number) ms ls → a < 65536
+      → Draws n c ms ls (header 0xF0 a) (startingAt n Data a (memoryStream n (c .image)))
+  pub status : (c : Chip) {ms ls : List Bool} (a : ℕ) → Ready n c → Selection (c .state .number) ms ls → a < 65536
+      → Draws n c ms ls (header 0xAA a) (startingAt n Status a (statusStream n (c .image)))
+  pub extended : (c : Chip) {ms ls : List Bool} (a : ℕ) → Ready n c → Selection (c .state .number) ms ls → a < 65536
+      → Draws n c ms ls (header 0xA5 a) (startingAt n Data a (extendedStream n (c .image)))
 
 pub record WriteLaws (n : ℕ) : Type 0 where
-  -- bytes from address a of either memory on
+  -- bytes from a start address of sixteen bits on, of either memory: they go to the address as kept, over which the first CRC is too
   pub write : (c : Chip) {ms ls : List Bool} (space : Space) (a : ℕ) (bytes : List ℕ) → Ready n c → Selection (c .state .number) ms ls
-      → a + length bytes ≤ limitOf n space → ((i : ℕ) → i < length bytes → getD bytes i 0 < 256) → 0 < length bytes
+      → a < 65536 → let k = keptAddress n a in
+      k + length bytes ≤ limitOf n space → ((i : ℕ) → i < length bytes → getD bytes i 0 < 256) → 0 < length bytes
       → Goes n c
       (Reset ∷ (slots (ms ++ bitsOfBytes (header (writeCommand space) a)) ++ writeEvents bytes))
-      (false ∷ ((ls ++ bitsOfBytes (header (writeCommand space) a)) ++ writeLines n (c .image) space a (crc16Of (header (writeCommand space) a)) bytes))
-      ((c at beforeByte n space (a + length bytes)) holding writtenFrom n (c .image) space a bytes)
+      (false ∷ ((ls ++ bitsOfBytes (header (writeCommand space) a)) ++ writeLines n (c .image) space k (crc16Of (header (writeCommand space) k)) bytes))
+      ((c at beforeByte n space (k + length bytes)) holding writtenFrom n (c .image) space k bytes)
 
 -- ---- what silences the chip
+
+-- a command with its address silences the chip as the last bit arrives
+abbrev pub Silenced : ℕ → Chip → List Bool → List Bool → ℕ → ℕ → Type 0
+Silenced n c ms ls command a =
+    Goes n c (Reset ∷ slots (ms ++ bitsOfBytes (header command a))) (false ∷ (ls ++ bitsOfBytes (header command a))) (c at silent)
 
 pub record SilenceLaws (n : ℕ) : Type 0 where
   -- a memory command byte that is none of the five
   pub unknown : (c : Chip) {ms ls : List Bool} (byte : ℕ) → Ready n c → Selection (c .state .number) ms ls → byte < 256
       → (eqb byte 0xF0 ≡ false) → (eqb byte 0xAA ≡ false) → (eqb byte 0xA5 ≡ false) → (eqb byte 0x0F ≡ false) → (eqb byte 0x55 ≡ false)
       → Goes n c (Reset ∷ slots (ms ++ bitsOf 8 byte)) (false ∷ (ls ++ bitsOf 8 byte)) (c at silent)
-  -- a start address that the memory does not have, as its last bit arrives
+  -- a start address of sixteen bits that, as kept, the memory does not have
   pub too-high : (c : Chip) {ms ls : List Bool} (a : ℕ) → Ready n c → Selection (c .state .number) ms ls → a < 65536
-      → (dataSize n ≤ a → Goes n c (Reset ∷ slots (ms ++ bitsOfBytes (header 0xF0 a))) (false ∷ (ls ++ bitsOfBytes (header 0xF0 a))) (c at silent))
-      × (statusSize n ≤ a → Goes n c (Reset ∷ slots (ms ++ bitsOfBytes (header 0xAA a))) (false ∷ (ls ++ bitsOfBytes (header 0xAA a))) (c at silent))
-      × (dataSize n ≤ a → Goes n c (Reset ∷ slots (ms ++ bitsOfBytes (header 0xA5 a))) (false ∷ (ls ++ bitsOfBytes (header 0xA5 a))) (c at silent))
-      × ((space : Space) → limitOf n space ≤ a
-      → Goes n c (Reset ∷ slots (ms ++ bitsOfBytes (header (writeCommand space) a))) (false ∷ (ls ++ bitsOfBytes (header (writeCommand space) a))) (c at silent))
+      → (limitOf n Data ≤ keptAddress n a → Silenced n c ms ls 0xF0 a × Silenced n c ms ls 0xA5 a)
+      × (limitOf n Status ≤ keptAddress n a → Silenced n c ms ls 0xAA a)
+      × ((space : Space) → limitOf n space ≤ keptAddress n a → Silenced n c ms ls (writeCommand space) a)
+
+-- ---- what a master sees of a start address
+
+-- A master sent a command with its address, and then read these bytes and sixteen bits more, which are the CRC of all that it sent and read.
+abbrev pub Fits : ℕ → Chip → List Bool → List Bool → ℕ → ℕ → List ℕ → Type 0
+Fits n c ms ls command a bytes =
+    answers n c (Reset ∷ slots (ms ++ (bitsOfBytes (header command a) ++ ones (8 * length bytes + 16))))
+    ≡ map accepted (false ∷ (ls ++ (bitsOfBytes (header command a) ++ (bitsOfBytes bytes ++ crcOf (header command a ++ bytes)))))
+
+-- The same of the first byte of a write, which the master sent.
+abbrev pub WriteFits : ℕ → Chip → List Bool → List Bool → Space → ℕ → ℕ → Type 0
+WriteFits n c ms ls space a byte =
+    let sent = bitsOfBytes (header (writeCommand space) a) in
+    answers n c (Reset ∷ (slots (ms ++ sent) ++ (slots (bitsOf 8 byte) ++ reading 16)))
+    ≡ map accepted (false ∷ ((ls ++ sent) ++ (bitsOf 8 byte ++ crcOf (header (writeCommand space) a ++ (byte ∷ [])))))
+
+-- Where the chip sends a CRC, and the master has read all that stands before it, a CRC that fits says that no bit of the address was dropped.
+-- (Where the status memory does not have the kept address, the chip is silent and sends none.)
+pub record NoticeLaws (n : ℕ) : Type 0 where
+  pub memory : (c : Chip) {ms ls : List Bool} (a : ℕ) (bytes : List ℕ) → Ready n c → Selection (c .state .number) ms ls → a < 65536
+      → keptAddress n a < limitOf n Data → length bytes ≡ limitOf n Data - keptAddress n a → Fits n c ms ls 0xF0 a bytes → a < 2 ^ addressBits n
+  pub status : (c : Chip) {ms ls : List Bool} (a : ℕ) (bytes : List ℕ) → Ready n c → Selection (c .state .number) ms ls → a < 65536
+      → keptAddress n a < limitOf n Status → length bytes ≡ 8 - keptAddress n a % 8 → Fits n c ms ls 0xAA a bytes → a < 2 ^ addressBits n
+  pub extended : (c : Chip) {ms ls : List Bool} (a byte : ℕ) → Ready n c → Selection (c .state .number) ms ls → a < 65536
+      → keptAddress n a < limitOf n Data → Fits n c ms ls 0xA5 a (byte ∷ []) → a < 2 ^ addressBits n
+  pub write : (c : Chip) {ms ls : List Bool} (space : Space) (a byte : ℕ) → Ready n c → Selection (c .state .number) ms ls → a < 65536
+      → keptAddress n a < limitOf n space → byte < 256 → WriteFits n c ms ls space a byte → a < 2 ^ addressBits n
+
+-- ---- the DS2505's own numbers
+
+-- Start addresses keep their low eleven bits. From a data address the chip always sends; from a status address where that is at most 13Fh.
+pub record Ds2505Starts : Type 0 where
+  pub kept : (a : ℕ) → keptAddress 64 a ≡ a % 0x800
+  pub memory : (c : Chip) {ms ls : List Bool} (a : ℕ) → Ready 64 c → Selection (c .state .number) ms ls → a < 65536
+      → Draws 64 c ms ls (header 0xF0 a) (memoryStream 64 (c .image) (a % 0x800))
+  pub extended : (c : Chip) {ms ls : List Bool} (a : ℕ) → Ready 64 c → Selection (c .state .number) ms ls → a < 65536
+      → Draws 64 c ms ls (header 0xA5 a) (extendedStream 64 (c .image) (a % 0x800))
+  pub status : (c : Chip) {ms ls : List Bool} (a : ℕ) → Ready 64 c → Selection (c .state .number) ms ls → a < 65536 → a % 0x800 < 0x140
+      → Draws 64 c ms ls (header 0xAA a) (statusStream 64 (c .image) (a % 0x800))
+  pub silent-status : (c : Chip) {ms ls : List Bool} (a : ℕ) → Ready 64 c → Selection (c .state .number) ms ls → a < 65536 → 0x140 ≤ a % 0x800
+      → Draws 64 c ms ls (header 0xAA a) []

@@ -1,2 +1,4 @@
+pub mod Distinct
+mod Linear
 pub mod Runs
 mod Steps

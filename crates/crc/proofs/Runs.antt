@@ -1,5 +1,5 @@
 -- A run of bits or bytes after another, and the size of the register, for any polynomial.
-use mathlib.Core.Path.{_≡_, refl}
+use mathlib.Core.Path.{_≡_, refl, sym, _∙_}
 use mathlib.Core.Bool.{Bool}
 use mathlib.Core.List.{List, [], _∷_, _++_}
 use Prim.Native.Nat.{ℕ, zero, suc, _+_, _*_, _/_, _%_, _^_, _<_}
@@ -7,7 +7,7 @@ use native.Mathlib.Nat.{zero-mul, one-mul, mod-lt}
 use native.Mathlib.Omega.{arith}
 use lib.Bits.{xor-lt}
 use lib.Dec.{lit<}
-use Rattle.terms.specs.Bits.{one, bitsOf}
+use Rattle.terms.specs.Bits.{one, bitsOf, bitsOfBytes}
 use Rattle.crc.specs.Crc.{crcBit, crcBits, crcByte, crcBytes}
 
 module _ (p : ℕ) where
@@ -20,6 +20,12 @@ module _ (p : ℕ) where
   unfolding crcBytes
   bytes-after r [] ys = refl
   bytes-after r (x ∷ xs) ys = bytes-after (crcByte p r x) xs ys
+
+  -- bytes count by their bits alone
+  pub bytes-bits : (r : ℕ) (bytes : List ℕ) → crcBytes p r bytes ≡ crcBits p r (bitsOfBytes bytes)
+  unfolding crcBytes crcByte crcBits bitsOfBytes
+  bytes-bits r [] = refl
+  bytes-bits r (b ∷ bs) = bytes-bits (crcBits p r (bitsOf 8 b)) bs ∙ sym (bits-after r (bitsOf 8 b) (bitsOfBytes bs))
 
   -- a polynomial of k bits keeps a register of k bits
   module _ (k : ℕ) (fits : p < 2 ^ k) where

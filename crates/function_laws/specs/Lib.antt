@@ -1,3 +1,4 @@
 pub mod Streams
+pub mod Addresses
 pub mod Reads
 pub mod Writes

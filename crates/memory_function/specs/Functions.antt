@@ -15,6 +15,7 @@ use Rattle.memory_function.specs.declared.stage.Outgoing.{Outgoing}
 use Rattle.memory_function.specs.declared.stage.Outgoing.the-variants.{MemoryData, MemoryCrc, StatusData, StatusCrc, RedirectionByte, RedirectionCrc, PageData, PageCrc, WriteCrc, ReadBack}
 use Rattle.memory_function.specs.declared.stage.MemoryStage.{MemoryStage}
 use Rattle.memory_function.specs.declared.stage.MemoryStage.the-variants.{Silent, Receive, Send, Armed}
+use Rattle.memory_function.specs.Limits.{keptAddress}
 use Rattle.memory_function.specs.Stages.{receiving, sendingCrc}
 use Rattle.memory_function.specs.Reads.{startMemory, startStatus, startExtended, pageFrom, afterMemory, afterStatus, nextStatus, afterPage, nextPage}
 use Rattle.memory_function.specs.Writes.{startWrite, nextWrite, readingBack}
@@ -41,10 +42,14 @@ addressed n ReadStatus a crc img = startStatus n a crc img
 addressed n ExtendedRead a crc img = startExtended n a crc img
 addressed n (Write space) a crc img = startWrite n space a crc
 
+-- a command starts at the address as the chip keeps it, and the CRC takes in the high byte as kept, not as sent
+unfoldable pub startedAt : ℕ → Command → ℕ → ℕ → List ℕ → MemoryStage
+startedAt n c a crc img = addressed n c (keptAddress n a) (crc16Byte crc (keptAddress n a / 256)) img
+
 unfoldable pub received : ℕ → Incoming → ℕ → ℕ → List ℕ → MemoryStage
 received n CommandByte byte crc img = memoryCommand byte
 received n (AddressLow c) byte crc img = receiving (AddressHigh c byte) (crc16Byte crc byte)
-received n (AddressHigh c low) byte crc img = addressed n c (low + 256 * byte) (crc16Byte crc byte) img
+received n (AddressHigh c low) byte crc img = startedAt n c (low + 256 * byte) crc img
 received n (DataByte t) byte crc img = sendingCrc (WriteCrc t byte) (crc16Byte crc byte)
 
 -- after k bits one more, and the register then holds v

@@ -1,6 +1,6 @@
 -- The addresses of each memory, over the page count n.
-use Prim.Native.Nat.{ℕ}
-use mathlib.Core.Bool.{Bool}
+use Prim.Native.Nat.{ℕ, _%_, _^_}
+use mathlib.Core.Bool.{Bool, cond}
 use lib.Dec.{ltb}
 use Rattle.terms.specs.declared.address.Space.{Space}
 use Rattle.terms.specs.declared.address.Space.the-variants.{Data, Status}
@@ -15,6 +15,18 @@ limitOf n Status = statusSize n
 
 unfoldable pub isAddress : ℕ → Space → ℕ → Bool
 isAddress n space a = ltb a (limitOf n space)
+
+-- ---- start addresses
+
+-- how many bits of a start address the chip keeps: 11 for the DS2505, 13 for the DS2506
+unfoldable pub addressBits : ℕ → ℕ
+addressBits n = cond (ltb 64 n) 13 11
+
+-- a start address as the chip keeps it: the bits above these are set to 0
+unfoldable pub keptAddress : ℕ → ℕ → ℕ
+keptAddress n a = a % 2 ^ addressBits n
+
+-- ---- targets
 
 unfoldable pub targetAt : Space → ℕ → Target
 targetAt Data a = DataTarget (record { 0 = a })

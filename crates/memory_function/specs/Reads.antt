@@ -29,7 +29,7 @@ redirectionFrom n a crc img = sendingByte (RedirectionByte a) (redirectionOf n i
 unfoldable pub pageFrom : ℕ → DataAddress → ℕ → List ℕ → MemoryStage
 pageFrom n a crc img = sendingByte (PageData a) (dataByte n img (a .0)) crc
 
--- ---- an address is in; one that the memory does not have silences the chip
+-- ---- an address is in, as the chip keeps it; one that the memory does not have silences the chip
 
 unfoldable pub startMemory : ℕ → ℕ → ℕ → List ℕ → MemoryStage
 startMemory n a crc img = cond (isAddress n Data a) (memoryFrom n (record { 0 = a }) crc img) Silent

@@ -15,7 +15,7 @@ use Rattle.memory_function.specs.declared.stage.MemoryStage.the-variants
 use Rattle.memory_function.specs.Limits.{limitOf, isAddress, targetAt}
 use Rattle.memory_function.specs.Stages.{receiving, sendingByte}
 
--- an address is in; one that the memory does not have silences the chip
+-- an address is in, as the chip keeps it; one that the memory does not have silences the chip
 unfoldable pub startWrite : ℕ → Space → ℕ → ℕ → MemoryStage
 startWrite n space a crc = cond (isAddress n space a) (receiving (DataByte (targetAt space a)) crc) Silent
 

@@ -2,7 +2,8 @@
 ghost use mathlib.Core.Path.{_≡_};
 ghost use Prim.Native.Nat.{_+_, _*_};
 ghost use Rattle.memory.specs.Layout.{pageCount};
-ghost use Rattle.memory_function.specs.Functions.{beginning, memoryCommand, addressed, received, receiveBit};
+ghost use Rattle.memory_function.specs.Functions.{beginning, memoryCommand, addressed, startedAt, received, receiveBit};
+use crate::limits;
 use crate::read;
 use crate::stage;
 use crate::stage::Command;
@@ -41,7 +42,7 @@ fn address(low: u8, high: u8) -> u16
     low as u16 + 256 * (high as u16)
 }
 
-// A command and its whole address are in.
+// A command and its whole address are in, and the CRC has taken them in.
 fn address_in(last: Page, c: Command, a: u16, crc: u16, image: &[u8]) -> MemoryStage
     ensures { λ r. ⌜ r ≡ addressed (pageCount last) c a crc (now (image .entry)) ⌝ }
 {
@@ -53,6 +54,20 @@ fn address_in(last: Page, c: Command, a: u16, crc: u16, image: &[u8]) -> MemoryS
     }
 }
 
+// A command starts at the address as the chip keeps it, and the CRC takes in the high byte as kept, not as sent.
+fn start_at(last: Page, c: Command, a: u16, crc: u16, image: &[u8]) -> MemoryStage
+    ensures { λ r. ⌜ r ≡ startedAt (pageCount last) c a crc (now (image .entry)) ⌝ }
+{
+    let kept = limits::kept(last, a);
+    address_in(
+        last,
+        c,
+        kept,
+        crc::crc16::byte(crc, (kept / 256) as u8),
+        image,
+    )
+}
+
 // A whole byte is in.
 fn byte_in(last: Page, i: Incoming, byte: u8, crc: u16, image: &[u8]) -> MemoryStage
     ensures { λ r. ⌜ r ≡ received (pageCount last) i byte crc (now (image .entry)) ⌝ }
@@ -62,15 +77,7 @@ fn byte_in(last: Page, i: Incoming, byte: u8, crc: u16, image: &[u8]) -> MemoryS
         Incoming::AddressLow(c) => {
             stage::receive(Incoming::AddressHigh(c, byte), crc::crc16::byte(crc, byte))
         }
-        Incoming::AddressHigh(c, low) => {
-            address_in(
-                last,
-                c,
-                address(low, byte),
-                crc::crc16::byte(crc, byte),
-                image,
-            )
-        }
+        Incoming::AddressHigh(c, low) => { start_at(last, c, address(low, byte), crc, image) }
         Incoming::Data(t) => {
             stage::send_crc(Outgoing::WriteCrc(t, byte), crc::crc16::byte(crc, byte))
         }

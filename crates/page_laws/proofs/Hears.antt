@@ -16,17 +16,20 @@ use Rattle.crc.specs.Crc.{crc16Of}
 use Rattle.memory.specs.Layout.{imageSize, dataSize}
 use Rattle.memory.specs.Image.{dataByte, redirectionOf, pageBytes}
 use Rattle.memory.proofs.Pages.{page-length}
+use Rattle.terms.specs.declared.address.Space.the-variants.{Data}
 use Rattle.memory_function.specs.declared.stage.Command.the-variants.{ExtendedRead}
 use Rattle.memory_function.specs.declared.stage.MemoryStage.{MemoryStage}
 use Rattle.memory_function.specs.declared.stage.MemoryStage.the-variants.{Silent}
+use Rattle.memory_function.specs.Limits.{limitOf, keptAddress}
 use Rattle.memory_function.specs.Reads.{startExtended}
 use Rattle.memory_function.specs.Functions.{memoryCommand, addressed}
 use Rattle.function_laws.specs.Streams.{bytesFrom, header, extendedPages, extendedStream}
 use Rattle.function_laws.specs.Reads.{Sends, none, next}
+use Rattle.function_laws.proofs.Addresses.{address-laws}
 use Rattle.function_laws.proofs.Sessions.{read-laws}
 use Rattle.chip.specs.declared.event.Stage.the-variants.{Memory}
 use Rattle.chip.specs.Event.{awaitingRom}
-use Rattle.chip.specs.Run.{Chip, draws}
+use Rattle.chip.specs.Run.{Chip}
 use Rattle.chip_laws.specs.Session.{Ready, _at_, Goes, skip}
 use Rattle.chip_laws.proofs.Runs.{_then_}
 use Rattle.chip_laws.proofs.Slots.{lines-read, bits-length, bytes-length, ready, over-memory}
@@ -102,10 +105,11 @@ module _ (n : ℕ) (whole : n % 8 ≡ 0) (low : n ≤ 256) where
 
   command-in : (c : Chip) (p : ℕ) → p < n → Ready n c
       → Goes n c (Reset ∷ slots (echoed p)) (false ∷ echoed p) (c at Memory (startExtended n (32 * p) (crc16Of (header 0xA5 (32 * p))) (c .image)))
-  unfolding bitsOfBytes addressLow addressHigh
+  unfolding bitsOfBytes addressLow addressHigh memoryCommand addressed
   command-in c p below ok =
       let g : 32 * p / 256 % 256 ≡ 32 * p / 256 = omega arith in
-      rw g (unfold memoryCommand addressed in up-to-address n whole c ExtendedRead 0xA5 (32 * p) ok skip (lit< tt) refl (omega arith))
+      let own : keptAddress n (32 * p) ≡ 32 * p = address-laws n low .own Data (32 * p) (unfold limitOf in omega arith) in
+      rw g (rw own at (up-to-address n whole c ExtendedRead 0xA5 (32 * p) ok skip (lit< tt) refl (omega arith)))
 
   pub visits : (c : Chip) (p : ℕ) → p < n → Ready n c → Visit n c p
   visits c p below ok =

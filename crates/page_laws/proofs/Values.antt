@@ -1,16 +1,14 @@
 -- What the register holds after bits were shifted into it: the byte or the word that they write.
-use Prim.Native.Nat.{ℕ, zero, suc, _+_, _*_, _/_, _%_, _^_, _<_}
+use Prim.Native.Nat.{ℕ, zero, suc, _+_, _*_, _/_, _^_, _<_}
 use mathlib.Core.Path.{_≡_, refl, sym, ap, ap₂, _∙_}
 use mathlib.Core.Bool.{Bool, true, false}
 use mathlib.Core.List.{List, [], _∷_, _++_}
-use native.Mathlib.Nat.{mul-assoc, mul-comm, add-mul, mul-add, pow-succ', pow-suc}
+use native.Mathlib.Nat.{mul-assoc, mul-comm, add-mul, mul-add, pow-suc}
 use native.Mathlib.Omega.{arith}
-use lib.Dec.{eqb}
 use lib.ListN.{length, take, drop, length-drop, take-append-drop}
 use lib.Seq.{length-take-le}
-use borrow.Author.Tests.{eqb-true, eqb-false}
-use Rattle.terms.specs.Bits.{one, odd, bitsOf, bitsOfBytes}
-use Rattle.terms.proofs.Values.{valueOf, value-bits, value-below, byte-below}
+use Rattle.terms.specs.Bits.{bitsOf, bitsOfBytes}
+use Rattle.terms.proofs.Values.{valueOf, value-bits, value-below, value-of, byte-below}
 use Rattle.page_read.specs.PageRead.{collect}
 use Rattle.chip_laws.specs.Session.{Bytes}
 use Rattle.chip_laws.proofs.Slots.{bits-length}
@@ -19,21 +17,6 @@ use Rattle.chip_laws.proofs.Slots.{bits-length}
 abbrev pub collects : ℕ → List Bool → ℕ
 collects v [] = v
 collects v (b ∷ bs) = collects (collect v b) bs
-
-one-odd : (v : ℕ) → one (odd v) ≡ v % 2
-one-odd v = go (eqb (v % 2) 1) refl
-  where
-    go : (t : Bool) → eqb (v % 2) 1 ≡ t → one t ≡ v % 2
-    go true e = omega (arith, eqb-true (v % 2) 1 e)
-    go false e = omega (arith, eqb-false (v % 2) 1 e)
-
--- a number is the one that its bits write
-value-of : (n v : ℕ) → v < 2 ^ n → valueOf (bitsOf n v) ≡ v
-unfolding bitsOf
-value-of zero v h = omega arith
-value-of (suc n) v h =
-    let r : valueOf (bitsOf n (v / 2)) ≡ v / 2 = value-of n (v / 2) (omega (arith, pow-succ' 2 n)) in
-    omega (arith, one-odd v)
 
 doubled : (u n : ℕ) → u * 2 ^ suc n ≡ 2 * (u * 2 ^ n)
 doubled u n = ap (λ (x : ℕ). u * x) (pow-suc 2 n) ∙ sym (mul-assoc u (2 ^ n) 2) ∙ mul-comm (u * 2 ^ n) 2

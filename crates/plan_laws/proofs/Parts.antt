@@ -3,7 +3,6 @@ use Prim.Native.Nat.{ℕ, _%_, _<_, _≤_}
 use mathlib.Core.Path.{_≡_, refl, ap}
 use mathlib.Core.Bool.{Bool}
 use mathlib.Core.List.{List, [], _∷_, _++_, append-nil}
-use native.Mathlib.Omega.{arith}
 use Rattle.terms.specs.Bits.{bitsOf, bitsOfBytes}
 use Rattle.terms.specs.declared.address.Space.{Space}
 use Rattle.terms.specs.declared.address.Space.the-variants.{Data, Status}
@@ -29,7 +28,7 @@ use Rattle.chip.specs.Run.{Chip}
 use Rattle.chip_laws.specs.Session.{Ready, _at_, _holding_, skip, writeCommand}
 use Rattle.chip_laws.proofs.Slots.{slots-append, byte-in}
 use Rattle.chip_laws.proofs.Sessions.{reset}
-use Rattle.chip_laws.proofs.Writes.{crc-read, fires, back-read, limit-low, is-write}
+use Rattle.chip_laws.proofs.Writes.{crc-read, fires, back-read, is-write}
 use Rattle.plan_laws.specs.Plan.{stepEvents}
 use Rattle.plan_laws.proofs.Stretches.{Stretch, _then_, Quiet, free-events, free-quiet, read-events, read-quiet, quietly, singly, still-ready}
 
@@ -65,7 +64,7 @@ module _ (P : List ℕ → Type 0) (n : ℕ) (whole : n % 8 ≡ 0) where
       rw (head-is space a, register-is space a)
       (quietly P (resetStep ∷ freely (slots (headBits space a)))
       (ap (λ l. Reset ∷ l) (free-events (headBits space a))) (refl, refl, free-quiet (headBits space a)) h
-      (is-write n whole space a c ok skip (omega (arith, limit-low n whole low space)) lt))
+      (is-write n whole low space a c ok skip lt))
 
   pub closing : (c : Chip) → Ready n c → P (c .image) → Stretch P n c (resetStep ∷ []) (c at awaitingRom)
   closing c ok h = singly P Reset Presence refl h h (reset n whole c ok)

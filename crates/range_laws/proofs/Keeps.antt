@@ -1,5 +1,5 @@
 -- A slot and a pulse keep a stage of the memory functions within its ranges.
-use Prim.Native.Nat.{ℕ, _+_, _-_, _*_, _%_}
+use Prim.Native.Nat.{ℕ, _+_, _-_, _%_}
 use mathlib.Core.Path.{_≡_, refl, sym}
 use mathlib.Core.Bool.{Bool, true, false, cond}
 use mathlib.Core.List.{List}
@@ -25,7 +25,7 @@ use Rattle.memory_function.specs.Limits.{limitOf, isAddress, targetAt, targetIn
 use Rattle.memory_function.specs.Stages.{receiving, sendingByte, sendingCrc}
 use Rattle.memory_function.specs.Reads.{memoryFrom, statusFrom, redirectionFrom, pageFrom, startMemory, startStatus, startExtended, afterMemory, afterStatus, nextStatus, afterPage, nextPage}
 use Rattle.memory_function.specs.Writes.{startWrite, raised, nextWrite, readingBack}
-use Rattle.memory_function.specs.Functions.{beginning, memoryCommand, addressed, received, receiveBit, sent, sendBit, memorySlot, pulseStage}
+use Rattle.memory_function.specs.Functions.{beginning, memoryCommand, addressed, startedAt, received, receiveBit, sent, sendBit, memorySlot, pulseStage}
 use Rattle.memory_function.specs.Ranges.{incomingInRange, outgoingInRange, widthOf, receiveInRange, sendInRange, memoryInRange}
 use Rattle.range_laws.specs.Ranges.{RangeLaws}
 
@@ -116,10 +116,10 @@ module _ (n : ℕ) where
   addressed-kept (Write space) a crc img = tested (isAddress n space a) _ _ (write-kept space a crc) silent-kept
 
   received-kept : (i : Incoming) (byte crc : ℕ) (img : List ℕ) → incomingInRange n i ≡ true → Kept n (received n i byte crc img)
-  unfolding received incomingInRange outgoingInRange widthOf
+  unfolding received startedAt incomingInRange outgoingInRange widthOf
   received-kept CommandByte byte crc img h = command-kept byte
   received-kept (AddressLow c) byte crc img h = receiving-kept _ _ refl
-  received-kept (AddressHigh c low) byte crc img h = addressed-kept c (low + 256 * byte) (crc16Byte crc byte) img
+  received-kept (AddressHigh c low) byte crc img h = addressed-kept c _ _ img
   received-kept (DataByte t) byte crc img h = sending-crc-kept _ _ refl h
 
   -- ---- all bits of something have gone out

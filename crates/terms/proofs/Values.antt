@@ -1,12 +1,13 @@
 -- The number that bits write.
-use Prim.Native.Nat.{ℕ, _+_, _*_, _/_, _%_, _^_, _<_, _≤_}
+use Prim.Native.Nat.{ℕ, zero, suc, _+_, _*_, _/_, _%_, _^_, _<_, _≤_}
 use mathlib.Core.Bool.{Bool, true, false}
 use mathlib.Core.List.{List, [], _∷_}
 use mathlib.Core.Path.{_≡_, refl, sym, ap, ap₂, _∙_}
 use native.Mathlib.Omega.{arith}
 use native.Mathlib.Nat.{pow-succ'}
+use lib.Dec.{eqb}
 use lib.ListN.{length}
-use borrow.Author.Tests.{eq-eqb, ne-eqb}
+use borrow.Author.Tests.{eq-eqb, ne-eqb, eqb-true, eqb-false}
 use Rattle.terms.specs.Bits.{one, odd, bitsOf}
 
 -- least significant bit first
@@ -39,3 +40,22 @@ value-below (b ∷ bs) = omega (arith, one-le b, value-below bs, pow-succ' 2 (le
 
 pub byte-below : (bs : List Bool) → length bs ≡ 8 → valueOf bs < 256
 byte-below bs l = rw l at (value-below bs)
+
+pub one-odd : (v : ℕ) → one (odd v) ≡ v % 2
+one-odd v = go (eqb (v % 2) 1) refl
+  where
+    go : (t : Bool) → eqb (v % 2) 1 ≡ t → one t ≡ v % 2
+    go true e = omega (arith, eqb-true (v % 2) 1 e)
+    go false e = omega (arith, eqb-false (v % 2) 1 e)
+
+-- a number is the one that its bits write ..
+pub value-of : (n v : ℕ) → v < 2 ^ n → valueOf (bitsOf n v) ≡ v
+unfolding bitsOf
+value-of zero v h = omega arith
+value-of (suc n) v h =
+    let r : valueOf (bitsOf n (v / 2)) ≡ v / 2 = value-of n (v / 2) (omega (arith, pow-succ' 2 n)) in
+    omega (arith, one-odd v)
+
+-- .. so that its bits tell it from every other
+pub bits-tell : (n v w : ℕ) → v < 2 ^ n → w < 2 ^ n → bitsOf n v ≡ bitsOf n w → v ≡ w
+bits-tell n v w hv hw e = sym (value-of n v hv) ∙ ap valueOf e ∙ value-of n w hw

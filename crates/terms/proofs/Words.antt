@@ -21,7 +21,7 @@ bits-low (suc n) x =
     let r : x % 2 ^ suc n % 2 ≡ x % 2 = omega arith in
     ap₂ (λ (b z : ℕ). eqb b 1 ∷ bitsOf n z) r q ∙ ap {B = List Bool} (λ l. odd x ∷ l) (bits-low n (x / 2))
 
-half : (x n : ℕ) → x / 2 / 2 ^ n ≡ x / 2 ^ suc n
+pub half : (x n : ℕ) → x / 2 / 2 ^ n ≡ x / 2 ^ suc n
 half x n = shr-shr x 1 n ∙ ap (λ (k : ℕ). x / 2 ^ k) (one-add n)
 
 -- m bits of x, and then n more

@@ -89,8 +89,8 @@ fn chains(image: &mut [u8; 2368]) {
 // ---- the chip
 
 // A byte is written at data address 25h, on page 1: 33 events up to the address, 8 for the byte, 16 for the CRC, the pulse, 8 read.
-fn write(sent: u8, list: &mut [u8; 65536], image: &mut [u8; 2368], d: &mut u64) {
-    let a = line::begin(list, 0x0F, 0x25, 0x00);
+fn write(high: u8, sent: u8, list: &mut [u8; 65536], image: &mut [u8; 2368], d: &mut u64) {
+    let a = line::begin(list, 0x0F, 0x25, high);
     let b = line::send(list, a, sent);
     let c = line::send(list, b, 0xFF);
     let e = line::send(list, c, 0xFF);
@@ -114,15 +114,24 @@ fn writes(list: &mut [u8; 65536], image: &mut [u8; 2368], d: &mut u64) {
     fill::blank(image);
     place::put(image, 0x25, 0xF0);
     text::words(b"0f written over f0");
-    write(0x0F, list, image, d);
+    write(0x00, 0x0F, list, image, d);
     say_write(list, image);
     place::put(image, 0x25, 0x5A);
     text::words(b"ff written over 5a");
-    write(0xFF, list, image, d);
+    write(0x00, 0xFF, list, image, d);
     say_write(list, image);
     place::clear(image, 0, 1);
     text::words(b"0f written over a protected 5a");
-    write(0x0F, list, image, d);
+    write(0x00, 0x0F, list, image, d);
+    say_write(list, image);
+}
+
+// A bit of the start address is set that the chip drops.
+fn high_write(list: &mut [u8; 65536], image: &mut [u8; 2368], d: &mut u64) {
+    fill::blank(image);
+    place::put(image, 0x25, 0xF0);
+    text::words(b"0f written over f0 from start 08 25");
+    write(0x08, 0x0F, list, image, d);
     say_write(list, image);
 }
 
@@ -183,15 +192,19 @@ fn read_from(
     say_read(list);
 }
 
-// A byte, its CRC, then ones; and only ones.
+// A byte, its CRC, then ones; ones alone where the memory does not have the address; and the same with bits set that the chip drops.
 fn starts(list: &mut [u8; 65536], image: &mut [u8; 2368], d: &mut u64) {
     fill::blank(image);
+    place::put(image, 0x000, 0x3C);
     place::put(image, 0x7FF, 0x5A);
     read_from(0xF0, 0xFF, 0x07, list, image, d);
     read_from(0xF0, 0x00, 0x08, list, image, d);
+    read_from(0xF0, 0xFF, 0xFF, list, image, d);
     read_from(0xA5, 0x00, 0x08, list, image, d);
     read_from(0xAA, 0x3F, 0x01, list, image, d);
     read_from(0xAA, 0x40, 0x01, list, image, d);
+    read_from(0xAA, 0x3F, 0x09, list, image, d);
+    read_from(0xAA, 0x40, 0x09, list, image, d);
 }
 
 // ---- the masters
@@ -320,6 +333,7 @@ pub fn all(list: &mut [u8; 65536], image: &mut [u8; 2368], new: &mut [u8; 32]) {
     bytes_on_1(image);
     chains(image);
     writes(list, image, &mut d);
+    high_write(list, image, &mut d);
     no_bytes();
     starts(list, image, &mut d);
     zero_number(list, image, &mut d);

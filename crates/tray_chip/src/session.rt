@@ -141,14 +141,21 @@ fn memory_command(g: &mut u64) -> u8 {
     }
 }
 
-// An address: any, about the ends of data and status, of the fields of bits, of a redirection byte, in data.
+// An address of either memory, with any of the five bits that the chip drops.
+fn with_dropped_bits(g: &mut u64) -> u64 {
+    let upper = draw::below(g, 32) % 32;
+    draw::from(g, 0x800 * upper, 0x148)
+}
+
+// An address: any, about the ends of data and status, of the fields of bits, of a redirection byte, with dropped bits, in data.
 fn address(g: &mut u64) -> u64 {
-    match draw::below(g, 9) {
+    match draw::below(g, 11) {
         0 => draw::below(g, 0x10000),
         1 => draw::from(g, 0x7E0, 0x40),
         2 => draw::from(g, 0x130, 0x20),
         3 | 4 => draw::below(g, 0x48),
         5 | 6 => draw::from(g, 0x100, 0x40),
+        7 | 8 => with_dropped_bits(g),
         _ => draw::below(g, 0x800),
     }
 }

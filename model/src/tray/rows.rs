@@ -71,39 +71,52 @@ fn begun(image: Vec<u8>, bytes: &[u8]) -> Chip {
     chip
 }
 
-/// Bytes written at data address 25h, on page 1.
+/// Bytes written at data address 25h, on page 1; the last with a bit of the
+/// start address set that the chip drops.
 fn writes() -> String {
     let mut text = String::new();
-    for (old, sent, protected) in [(0xF0, 0x0F, false), (0x5A, 0xFF, false), (0x5A, 0x0F, true)] {
+    for (high, old, sent, protected) in [
+        (0x00, 0xF0, 0x0F, false),
+        (0x00, 0x5A, 0xFF, false),
+        (0x00, 0x5A, 0x0F, true),
+        (0x08, 0xF0, 0x0F, false),
+    ] {
         let mut image = blank_image();
         image[0x25] = old;
         if protected {
             image[DATA_LENGTH] = 0xFD;
         }
-        let mut chip = begun(image, &[0x0F, 0x25, 0x00, sent]);
+        let mut chip = begun(image, &[0x0F, 0x25, high, sent]);
         let crc = read_text(&mut chip, 2);
         chip.event(Event::Pulse);
         let back = read_text(&mut chip, 1);
         let held = bytes_text(&chip.image[0x25..0x26]);
         let protected = if protected { "a protected " } else { "" };
+        let start = if high == 0 { "" } else { " from start 08 25" };
         text += &format!(
-            "{sent:02x} written over {protected}{old:02x}: crc{crc}, read back{back}, held{held}\n"
+            "{sent:02x} written over {protected}{old:02x}{start}: crc{crc}, read back{back}, held{held}\n"
         );
     }
     text
 }
 
-/// What is read after a start address: a byte, its CRC, then ones; or ones.
+/// What is read after a start address: a byte, its CRC, then ones; ones alone
+/// where the memory does not have the address; with bits set that the chip
+/// drops, what follows the address without them.
 fn starts() -> String {
     let mut image = blank_image();
+    image[0x000] = 0x3C;
     image[0x7FF] = 0x5A;
     let mut text = String::new();
     for (command, high, low) in [
         (0xF0, 0x07, 0xFF),
         (0xF0, 0x08, 0x00),
+        (0xF0, 0xFF, 0xFF),
         (0xA5, 0x08, 0x00),
         (0xAA, 0x01, 0x3F),
         (0xAA, 0x01, 0x40),
+        (0xAA, 0x09, 0x3F),
+        (0xAA, 0x09, 0x40),
     ] {
         let mut chip = begun(image.clone(), &[command, low, high]);
         let read = read_text(&mut chip, 5);

@@ -141,14 +141,16 @@ fn command(generator: &mut Generator) -> u8 {
 }
 
 /// An address: any, about the ends of data and status, of the fields of bits,
-/// of a redirection byte, in data.
+/// of a redirection byte, of either memory with any of the bits that the chip
+/// drops, in data.
 fn address(generator: &mut Generator) -> u16 {
-    let number = match generator.below(9) {
+    let number = match generator.below(11) {
         0 => generator.below(0x10000),
         1 => 0x7E0 + generator.below(0x40),
         2 => 0x130 + generator.below(0x20),
         3 | 4 => generator.below(0x48),
         5 | 6 => 0x100 + generator.below(0x40),
+        7 | 8 => 0x800 * generator.below(32) + generator.below(0x148),
         _ => generator.below(0x800),
     };
     number as u16

@@ -194,6 +194,11 @@ fn rom_command(command: u8) -> Stage {
 
 /// A whole byte is in.
 fn received(what: Incoming, byte: u8, register: u16, image: &[u8; IMAGE_LENGTH]) -> Stage {
+    // The chip sets the five highest bits of a start address to 0.
+    let byte = match what {
+        Incoming::AddressHigh(_, _) => byte & 0x07,
+        _ => byte,
+    };
     let register = crc(register, byte);
     match what {
         Incoming::Command => {

@@ -14,11 +14,11 @@ returns-2 c = simp (c .before .before .before .i .given .1) (c .receive .ensures
 
 returns-3 : tie.Need-returns-3
 unfolding received
-returns-3 c = simp (c .before .before .before .before .i2 .given .1) (c .address-in .ensures ∙ simp (c .before .byte2 .ensures, c .before .before .address .ensures))
+returns-3 c = simp (c .before .before .before .i2 .given .1) (c .start-at .ensures ∙ simp (c .before .address .ensures))
 
 returns-4 : tie.Need-returns-4
 unfolding received
-returns-4 c = simp (c .before .before .before .i3 .given .1) (c .send-crc .ensures ∙ simp (c .before .byte3 .ensures))
+returns-4 c = simp (c .before .before .before .i3 .given .1) (c .send-crc .ensures ∙ simp (c .before .byte2 .ensures))
 
 pub byte-in-spec : {M : Type 1} → statement M
 byte-in-spec =
@@ -30,7 +30,6 @@ byte-in-spec =
     (λ c κs. search needs)
     (λ c κs. search needs)
     (λ c. search needs)
-    (λ c κs. search needs)
     (λ c κs. search needs)
     (λ c κs. search needs)
     (λ c. search needs)

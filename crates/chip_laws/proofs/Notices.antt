@@ -1,0 +1,149 @@
+-- A master that finds the CRC to fit the address as it sent it knows that the chip dropped no bit of it.
+use Prim.Native.Nat.{ℕ, zero, suc, _+_, _-_, _*_, _/_, _%_, _^_, _<_, _≤_}
+use mathlib.Core.Path.{_≡_, refl, sym, ap, ap₂, _∙_}
+use mathlib.Core.Bool.{Bool, true, false}
+use mathlib.Core.List.{List, [], _∷_, _++_, map, append-nil, append-assoc, append-cancel-left, tail-eq-of-cons-eq}
+use native.Mathlib.Decide.{decLt}
+use native.Mathlib.Omega.{arith}
+use lib.ListN.{length, length-append, length-replicate, take, drop}
+use lib.Seq.{take-at, drop-at}
+use borrow.Author.Tests.{lt-ltb}
+use Rattle.terms.specs.Told.{accepted}
+use Rattle.terms.specs.Bits.{bitsOf, bitsOfBytes}
+use Rattle.terms.specs.declared.address.Space.{Space}
+use Rattle.terms.specs.declared.address.Space.the-variants.{Data, Status}
+use Rattle.bus.specs.Slots.{ones, lines}
+use Rattle.crc.specs.Polynomial.{crc16Polynomial}
+use Rattle.crc.specs.Crc.{crcBytes, crcBits, crc16Of, crc16Word}
+use Rattle.crc.proofs.Runs.{bytes-after, bytes-bits}
+use Rattle.memory.specs.Layout.{dataSize}
+use Rattle.memory.specs.Image.{dataByte, statusByte, redirectionOf}
+use Rattle.memory_function.specs.declared.stage.Incoming.the-variants.{Data as DataByte}
+use Rattle.memory_function.specs.Limits.{limitOf, isAddress, addressBits, keptAddress, targetAt}
+use Rattle.function_laws.specs.Streams.{bytesFrom, crcOf, header, memoryStream, statusStream, extendedPages, extendedStream}
+use Rattle.function_laws.proofs.Addresses.{address-laws}
+use Rattle.chip.specs.Run.{Chip, lineOf}
+use Rattle.chip_laws.specs.Session.{Ready, Selection, thenOnes, writeCommand}
+use Rattle.chip_laws.specs.Laws.{Draws, startingAt, Fits, WriteFits, NoticeLaws}
+use Rattle.chip_laws.proofs.Runs.{_then_}
+use Rattle.chip_laws.proofs.Slots.{bits-length, bytes-length, lines-read, ready, byte-in}
+use Rattle.chip_laws.proofs.Sessions.{read-sessions}
+use Rattle.chip_laws.proofs.Writes.{starts, crc-read}
+
+-- ---- lists
+
+line-back : (bs : List Bool) → map lineOf (map accepted bs) ≡ bs
+line-back [] = refl
+line-back (b ∷ bs) = ap (λ l. b ∷ l) (line-back bs)
+
+-- replies that are told alike are alike
+told-once : (xs ys : List Bool) → map accepted xs ≡ map accepted ys → xs ≡ ys
+told-once xs ys e = sym (line-back xs) ∙ ap (map lineOf) e ∙ line-back ys
+
+-- the first bits of a longer stream
+first-bits : (bits rest : List Bool) (k : ℕ) → length bits ≡ k → thenOnes (bits ++ rest) k ≡ bits
+unfolding thenOnes
+first-bits [] rest zero e = refl
+first-bits [] rest (suc k) e = absurd (omega arith)
+first-bits (b ∷ bits) rest zero e = absurd (omega arith)
+first-bits (b ∷ bits) rest (suc k) e = ap (λ l. b ∷ l) (first-bits bits rest k (omega arith))
+
+bytes-from-length : (byte : ℕ → ℕ) (k a : ℕ) → length (bytesFrom byte a k) ≡ k
+unfolding bytesFrom
+bytes-from-length byte zero a = refl
+bytes-from-length byte (suc k) a = ap suc (bytes-from-length byte k (a + 1))
+
+-- ---- the CRC
+
+-- bytes with the same bits have the same CRC after the same header
+crc-by-bits : (head first bytes : List ℕ) → bitsOfBytes first ≡ bitsOfBytes bytes → crcOf (head ++ first) ≡ crcOf (head ++ bytes)
+crc-by-bits head first bytes e =
+    ap (λ (r : ℕ). bitsOf 16 (crc16Word r))
+    (bytes-after crc16Polynomial 0 head first ∙ bytes-bits crc16Polynomial _ first
+    ∙ ap (crcBits crc16Polynomial (crc16Of head)) e
+    ∙ sym (bytes-after crc16Polynomial 0 head bytes ∙ bytes-bits crc16Polynomial _ bytes))
+
+module _ (n : ℕ) (low : n ≤ 256) where
+  -- a CRC over the kept address that is that of the address as sent
+  not-dropped : (command a : ℕ) (bytes : List ℕ) → a < 65536
+      → crcOf (header command (keptAddress n a) ++ bytes) ≡ crcOf (header command a ++ bytes) → a < 2 ^ addressBits n
+  not-dropped command a bytes la e = go (decLt a (2 ^ addressBits n))
+    where
+      go : Dec (a < 2 ^ addressBits n) → a < 2 ^ addressBits n
+      go (yes lt) = lt
+      go (no ge) = absurd (address-laws n low .differs command a bytes (omega arith) la e)
+
+  -- a stream that begins with bytes and the CRC of command, kept address and these bytes
+  noticed : (c : Chip) (ms ls : List Bool) (command a : ℕ) (first bytes : List ℕ) (rest : List Bool) {stream : List Bool} → a < 65536 → length first ≡ length bytes
+      → stream ≡ (bitsOfBytes first ++ crcOf (header command (keptAddress n a) ++ first)) ++ rest → Draws n c ms ls (header command a) stream
+      → Fits n c ms ls command a bytes → a < 2 ^ addressBits n
+  noticed c ms ls command a first bytes rest {stream} la same begins draws fits =
+      let k = 8 * length bytes + 16 in
+      let x = bitsOfBytes first ++ crcOf (header command (keptAddress n a) ++ first) in
+      let y = bitsOfBytes bytes ++ crcOf (header command a ++ bytes) in
+      let sent = bitsOfBytes (header command a) in
+      let size : length (bitsOfBytes first ++ crcOf (header command (keptAddress n a) ++ first)) ≡ 8 * length bytes + 16 =
+      length-append (bitsOfBytes first) (crcOf (header command (keptAddress n a) ++ first))
+      ∙ ap₂ _+_ (bytes-length first ∙ ap (λ (l : ℕ). 8 * l) same) (bits-length 16 _) in
+      let line : lines (ones k) (thenOnes stream (length (ones k))) ≡ x =
+      ap₂ (λ (s : List Bool) (l : ℕ). lines (ones k) (thenOnes s l)) begins (length-replicate k _)
+      ∙ ap (lines (ones k)) (first-bits x rest k size) ∙ lines-read k x size in
+      let heard : false ∷ (ls ++ (sent ++ x)) ≡ false ∷ (ls ++ (sent ++ y)) =
+      told-once _ _ (ap (λ (l : List Bool). map accepted (false ∷ (ls ++ (sent ++ l)))) (sym line) ∙ sym (draws (ones k)) ∙ fits) in
+      let block : x ≡ y = append-cancel-left sent x y (append-cancel-left ls _ _ (tail-eq-of-cons-eq heard)) in
+      let m = 8 * length bytes in
+      let front : length (bitsOfBytes first) ≡ 8 * length bytes = bytes-length first ∙ ap (λ (l : ℕ). 8 * l) same in
+      let bits : bitsOfBytes first ≡ bitsOfBytes bytes =
+      sym (take-at (bitsOfBytes first) _ m front) ∙ ap (take m) block ∙ take-at (bitsOfBytes bytes) _ m (bytes-length bytes) in
+      let crcs : crcOf (header command (keptAddress n a) ++ first) ≡ crcOf (header command a ++ bytes) =
+      sym (drop-at (bitsOfBytes first) _ m front) ∙ ap (drop m) block ∙ drop-at (bitsOfBytes bytes) _ m (bytes-length bytes) in
+      not-dropped command a bytes la (sym (crc-by-bits (header command (keptAddress n a)) first bytes bits) ∙ crcs)
+
+  module _ (whole : n % 8 ≡ 0) where
+    in-memory : (space : Space) (a : ℕ) → a < limitOf n space → isAddress n space a ≡ true
+    unfolding isAddress
+    in-memory space a lt = lt-ltb a (limitOf n space) lt
+
+    -- what is drawn from an address of the memory
+    from-here : (c : Chip) (ms ls : List Bool) (space : Space) (command a : ℕ) (stream : ℕ → List Bool) → keptAddress n a < limitOf n space
+        → Draws n c ms ls (header command a) (startingAt n space a stream) → Draws n c ms ls (header command a) (stream (keptAddress n a))
+    from-here c ms ls space command a stream lt d = rw (in-memory space (keptAddress n a) lt) at d
+
+    write-noticed : (c : Chip) {ms ls : List Bool} (space : Space) (a byte : ℕ) → Ready n c → Selection (c .state .number) ms ls → a < 65536
+        → keptAddress n a < limitOf n space → byte < 256 → WriteFits n c ms ls space a byte → a < 2 ^ addressBits n
+    unfolding crcBytes
+    write-noticed c {ms} {ls} space a byte ok sel la lt small fits =
+        let k = keptAddress n a in
+        let sent = bitsOfBytes (header (writeCommand space) a) in
+        let register = crc16Of (header (writeCommand space) k) in
+        let first = starts n whole space a c ok sel la lt in
+        let ok₁ = ready n whole ok first in
+        let second = byte-in n whole c (DataByte (targetAt space k)) register byte small ok₁ in
+        let all = first then second then crc-read n whole c (targetAt space k) byte register (ready n whole ok₁ second) in
+        let heard = tail-eq-of-cons-eq (told-once _ _ (sym (all .told) ∙ fits)) in
+        let crcs : crcOf (header (writeCommand space) k ++ (byte ∷ [])) ≡ crcOf (header (writeCommand space) a ++ (byte ∷ [])) =
+        append-cancel-left (bitsOf 8 byte) _ _ (append-cancel-left (ls ++ sent) _ _ heard) in
+        not-dropped (writeCommand space) a (byte ∷ []) la crcs
+
+    pub notice-laws : NoticeLaws n
+    unfolding limitOf bitsOfBytes
+    notice-laws =
+        record {
+          memory = λ c {ms} {ls} a bytes ok sel la lt size fits.
+              let k = keptAddress n a in
+              let first = bytesFrom (dataByte n (c .image)) k (dataSize n - k) in
+              noticed c ms ls 0xF0 a first bytes [] la (bytes-from-length (dataByte n (c .image)) (dataSize n - k) k ∙ sym size)
+              (sym (append-nil _)) (from-here c ms ls Data 0xF0 a (memoryStream n (c .image)) lt (read-sessions n whole low .memory c a ok sel la)) fits;
+          status = λ c {ms} {ls} a bytes ok sel la lt size fits.
+              let k = keptAddress n a in
+              let first = bytesFrom (statusByte n (c .image)) k (8 - k % 8) in
+              noticed c ms ls 0xAA a first bytes _ la (bytes-from-length (statusByte n (c .image)) (8 - k % 8) k ∙ sym size)
+              refl (from-here c ms ls Status 0xAA a (statusStream n (c .image)) lt (read-sessions n whole low .status c a ok sel la)) fits;
+          extended = λ c {ms} {ls} a byte ok sel la lt fits.
+              let k = keptAddress n a in
+              let page = bytesFrom (dataByte n (c .image)) k (32 - k % 32) in
+              let rest = (bitsOfBytes page ++ crcOf page) ++ extendedPages n (c .image) (k / 32 + 1) (n - (k / 32 + 1)) in
+              noticed c ms ls 0xA5 a (redirectionOf n (c .image) (k / 32) ∷ []) (byte ∷ []) rest la refl
+              (simp (append-nil, append-assoc)) (from-here c ms ls Data 0xA5 a (extendedStream n (c .image)) lt (read-sessions n whole low .extended c a ok sel la)) fits;
+          write = write-noticed;
+        }

@@ -1,0 +1,19 @@
+use mathlib.Core.Path.{_∙_}
+use Rattle.memory_function.specs.Functions.{startedAt}
+use borrow.Author.Needs.{needs}
+use Rattle.memory_function.proofs.receive.start_at.Statement.{statement}
+use Rattle.memory_function.proofs.receive.start_at.Tie as tie
+
+returns : tie.Need-returns
+unfolding startedAt
+returns c = c .address-in .ensures ∙ simp (c .before .byte .ensures, c .before .before .kept .ensures)
+
+pub start-at-spec : {M : Type 1} → statement M
+start-at-spec =
+    tie.close
+    (tie.spec
+    (λ c κs. search needs)
+    (λ c. search needs)
+    (λ c κs. search needs)
+    (λ c κs. search needs)
+    returns)
