@@ -1,4 +1,4 @@
--- A master that finds the CRC to fit the address as it sent it knows that the chip dropped no bit of it.
+-- Where the chip sends a CRC, it fits the address as the master sent it exactly if the chip dropped no bit of that.
 use Prim.Native.Nat.{ℕ, zero, suc, _+_, _-_, _*_, _/_, _%_, _^_, _<_, _≤_}
 use mathlib.Core.Path.{_≡_, refl, sym, ap, ap₂, _∙_}
 use mathlib.Core.Bool.{Bool, true, false}
@@ -12,7 +12,8 @@ use Rattle.terms.specs.Told.{accepted}
 use Rattle.terms.specs.Bits.{bitsOf, bitsOfBytes}
 use Rattle.terms.specs.declared.address.Space.{Space}
 use Rattle.terms.specs.declared.address.Space.the-variants.{Data, Status}
-use Rattle.bus.specs.Slots.{ones, lines}
+use Rattle.bus.specs.declared.Event.the-variants.{Reset}
+use Rattle.bus.specs.Slots.{slots, ones, reading, lines}
 use Rattle.crc.specs.Polynomial.{crc16Polynomial}
 use Rattle.crc.specs.Crc.{crcBytes, crcBits, crc16Of, crc16Word}
 use Rattle.crc.proofs.Runs.{bytes-after, bytes-bits}
@@ -20,9 +21,10 @@ use Rattle.memory.specs.Layout.{dataSize}
 use Rattle.memory.specs.Image.{dataByte, statusByte, redirectionOf}
 use Rattle.memory_function.specs.declared.stage.Incoming.the-variants.{Data as DataByte}
 use Rattle.memory_function.specs.Limits.{limitOf, isAddress, addressBits, keptAddress, targetAt}
+use Rattle.memory_function.proofs.Addresses.{limit-fits}
 use Rattle.function_laws.specs.Streams.{bytesFrom, crcOf, header, memoryStream, statusStream, extendedPages, extendedStream}
 use Rattle.function_laws.proofs.Addresses.{address-laws}
-use Rattle.chip.specs.Run.{Chip, lineOf}
+use Rattle.chip.specs.Run.{Chip, answers, lineOf}
 use Rattle.chip_laws.specs.Session.{Ready, Selection, thenOnes, writeCommand}
 use Rattle.chip_laws.specs.Laws.{Draws, startingAt, Fits, WriteFits, NoticeLaws}
 use Rattle.chip_laws.proofs.Runs.{_then_}
@@ -73,77 +75,128 @@ module _ (n : ℕ) (low : n ≤ 256) where
       go (yes lt) = lt
       go (no ge) = absurd (address-laws n low .differs command a bytes (omega arith) la e)
 
-  -- a stream that begins with bytes and the CRC of command, kept address and these bytes
+  -- what read slots meet of a stream that begins with bytes and the CRC of command, address k and these bytes
+  block-heard : (c : Chip) (ms ls : List Bool) (command a k : ℕ) (first : List ℕ) (rest : List Bool) {stream : List Bool}
+      → stream ≡ (bitsOfBytes first ++ crcOf (header command k ++ first)) ++ rest → Draws n c ms ls (header command a) stream
+      → answers n c (Reset ∷ slots (ms ++ (bitsOfBytes (header command a) ++ ones (8 * length first + 16))))
+      ≡ map accepted (false ∷ (ls ++ (bitsOfBytes (header command a) ++ (bitsOfBytes first ++ crcOf (header command k ++ first)))))
+  block-heard c ms ls command a k first rest {stream} begins draws =
+      let m = 8 * length first + 16 in
+      let x = bitsOfBytes first ++ crcOf (header command k ++ first) in
+      let size : length (bitsOfBytes first ++ crcOf (header command k ++ first)) ≡ 8 * length first + 16 =
+      length-append (bitsOfBytes first) (crcOf (header command k ++ first)) ∙ ap₂ _+_ (bytes-length first) (bits-length 16 _) in
+      let line : lines (ones m) (thenOnes stream (length (ones m))) ≡ x =
+      ap₂ (λ (s : List Bool) (l : ℕ). lines (ones m) (thenOnes s l)) begins (length-replicate m _)
+      ∙ ap (lines (ones m)) (first-bits x rest m size) ∙ lines-read m x size in
+      draws (ones m) ∙ ap (λ (l : List Bool). map accepted (false ∷ (ls ++ (bitsOfBytes (header command a) ++ l)))) line
+
   noticed : (c : Chip) (ms ls : List Bool) (command a : ℕ) (first bytes : List ℕ) (rest : List Bool) {stream : List Bool} → a < 65536 → length first ≡ length bytes
       → stream ≡ (bitsOfBytes first ++ crcOf (header command (keptAddress n a) ++ first)) ++ rest → Draws n c ms ls (header command a) stream
       → Fits n c ms ls command a bytes → a < 2 ^ addressBits n
-  noticed c ms ls command a first bytes rest {stream} la same begins draws fits =
-      let k = 8 * length bytes + 16 in
-      let x = bitsOfBytes first ++ crcOf (header command (keptAddress n a) ++ first) in
+  noticed c ms ls command a first bytes rest la same begins draws fits =
+      let k = keptAddress n a in
+      let x = bitsOfBytes first ++ crcOf (header command k ++ first) in
       let y = bitsOfBytes bytes ++ crcOf (header command a ++ bytes) in
       let sent = bitsOfBytes (header command a) in
-      let size : length (bitsOfBytes first ++ crcOf (header command (keptAddress n a) ++ first)) ≡ 8 * length bytes + 16 =
-      length-append (bitsOfBytes first) (crcOf (header command (keptAddress n a) ++ first))
-      ∙ ap₂ _+_ (bytes-length first ∙ ap (λ (l : ℕ). 8 * l) same) (bits-length 16 _) in
-      let line : lines (ones k) (thenOnes stream (length (ones k))) ≡ x =
-      ap₂ (λ (s : List Bool) (l : ℕ). lines (ones k) (thenOnes s l)) begins (length-replicate k _)
-      ∙ ap (lines (ones k)) (first-bits x rest k size) ∙ lines-read k x size in
       let heard : false ∷ (ls ++ (sent ++ x)) ≡ false ∷ (ls ++ (sent ++ y)) =
-      told-once _ _ (ap (λ (l : List Bool). map accepted (false ∷ (ls ++ (sent ++ l)))) (sym line) ∙ sym (draws (ones k)) ∙ fits) in
+      told-once _ _
+      (sym (block-heard c ms ls command a k first rest begins draws)
+      ∙ ap (λ (l : ℕ). answers n c (Reset ∷ slots (ms ++ (sent ++ ones (8 * l + 16))))) same ∙ fits) in
       let block : x ≡ y = append-cancel-left sent x y (append-cancel-left ls _ _ (tail-eq-of-cons-eq heard)) in
       let m = 8 * length bytes in
       let front : length (bitsOfBytes first) ≡ 8 * length bytes = bytes-length first ∙ ap (λ (l : ℕ). 8 * l) same in
       let bits : bitsOfBytes first ≡ bitsOfBytes bytes =
       sym (take-at (bitsOfBytes first) _ m front) ∙ ap (take m) block ∙ take-at (bitsOfBytes bytes) _ m (bytes-length bytes) in
-      let crcs : crcOf (header command (keptAddress n a) ++ first) ≡ crcOf (header command a ++ bytes) =
+      let crcs : crcOf (header command k ++ first) ≡ crcOf (header command a ++ bytes) =
       sym (drop-at (bitsOfBytes first) _ m front) ∙ ap (drop m) block ∙ drop-at (bitsOfBytes bytes) _ m (bytes-length bytes) in
-      not-dropped command a bytes la (sym (crc-by-bits (header command (keptAddress n a)) first bytes bits) ∙ crcs)
+      not-dropped command a bytes la (sym (crc-by-bits (header command k) first bytes bits) ∙ crcs)
+
+  -- ---- the streams, each with the bytes before its first CRC
+
+  memory-begins : (img : List ℕ) (k : ℕ)
+      → let first = bytesFrom (dataByte n img) k (dataSize n - k) in
+      memoryStream n img k ≡ (bitsOfBytes first ++ crcOf (header 0xF0 k ++ first)) ++ []
+  memory-begins img k = sym (append-nil _)
+
+  -- the rest of the page, and the later pages
+  abbrev afterRedirection : List ℕ → ℕ → List Bool
+  afterRedirection img k =
+      let page = bytesFrom (dataByte n img) k (32 - k % 32) in
+      (bitsOfBytes page ++ crcOf page) ++ extendedPages n img (k / 32 + 1) (n - (k / 32 + 1))
+
+  extended-begins : (img : List ℕ) (k : ℕ)
+      → let first = redirectionOf n img (k / 32) ∷ [] in
+      extendedStream n img k ≡ (bitsOfBytes first ++ crcOf (header 0xA5 k ++ first)) ++ afterRedirection img k
+  unfolding bitsOfBytes
+  extended-begins img k = simp (append-nil, append-assoc)
 
   module _ (whole : n % 8 ≡ 0) where
     in-memory : (space : Space) (a : ℕ) → a < limitOf n space → isAddress n space a ≡ true
     unfolding isAddress
     in-memory space a lt = lt-ltb a (limitOf n space) lt
 
-    -- what is drawn from an address of the memory
-    from-here : (c : Chip) (ms ls : List Bool) (space : Space) (command a : ℕ) (stream : ℕ → List Bool) → keptAddress n a < limitOf n space
+    -- what is drawn from an address of the memory: as kept, and where it is one as sent
+    from-kept : (c : Chip) (ms ls : List Bool) (space : Space) (command a : ℕ) (stream : ℕ → List Bool) → keptAddress n a < limitOf n space
         → Draws n c ms ls (header command a) (startingAt n space a stream) → Draws n c ms ls (header command a) (stream (keptAddress n a))
-    from-here c ms ls space command a stream lt d = rw (in-memory space (keptAddress n a) lt) at d
+    from-kept c ms ls space command a stream lt d = rw (in-memory space (keptAddress n a) lt) at d
 
-    write-noticed : (c : Chip) {ms ls : List Bool} (space : Space) (a byte : ℕ) → Ready n c → Selection (c .state .number) ms ls → a < 65536
-        → keptAddress n a < limitOf n space → byte < 256 → WriteFits n c ms ls space a byte → a < 2 ^ addressBits n
+    from-own : (c : Chip) (ms ls : List Bool) (space : Space) (command a : ℕ) (stream : ℕ → List Bool) → a < limitOf n space
+        → Draws n c ms ls (header command a) (startingAt n space a stream) → Draws n c ms ls (header command a) (stream a)
+    from-own c ms ls space command a stream lt d = rw (address-laws n low .own space a lt, in-memory space a lt) at d
+
+    write-heard : (c : Chip) {ms ls : List Bool} (space : Space) (a byte : ℕ) → Ready n c → Selection (c .state .number) ms ls → a < 65536
+        → keptAddress n a < limitOf n space → byte < 256
+        → let sent = bitsOfBytes (header (writeCommand space) a) in
+        answers n c (Reset ∷ (slots (ms ++ sent) ++ (slots (bitsOf 8 byte) ++ reading 16)))
+        ≡ map accepted (false ∷ ((ls ++ sent) ++ (bitsOf 8 byte ++ crcOf (header (writeCommand space) (keptAddress n a) ++ (byte ∷ [])))))
     unfolding crcBytes
-    write-noticed c {ms} {ls} space a byte ok sel la lt small fits =
+    write-heard c space a byte ok sel la lt small =
         let k = keptAddress n a in
-        let sent = bitsOfBytes (header (writeCommand space) a) in
         let register = crc16Of (header (writeCommand space) k) in
         let first = starts n whole space a c ok sel la lt in
         let ok₁ = ready n whole ok first in
         let second = byte-in n whole c (DataByte (targetAt space k)) register byte small ok₁ in
         let all = first then second then crc-read n whole c (targetAt space k) byte register (ready n whole ok₁ second) in
-        let heard = tail-eq-of-cons-eq (told-once _ _ (sym (all .told) ∙ fits)) in
-        let crcs : crcOf (header (writeCommand space) k ++ (byte ∷ [])) ≡ crcOf (header (writeCommand space) a ++ (byte ∷ [])) =
-        append-cancel-left (bitsOf 8 byte) _ _ (append-cancel-left (ls ++ sent) _ _ heard) in
-        not-dropped (writeCommand space) a (byte ∷ []) la crcs
+        all .told
+
+    write-noticed : (c : Chip) {ms ls : List Bool} (space : Space) (a byte : ℕ) → Ready n c → Selection (c .state .number) ms ls → a < 65536
+        → keptAddress n a < limitOf n space → byte < 256 → WriteFits n c ms ls space a byte → a < 2 ^ addressBits n
+    write-noticed c {ms} {ls} space a byte ok sel la lt small fits =
+        let heard = tail-eq-of-cons-eq (told-once _ _ (sym (write-heard c space a byte ok sel la lt small) ∙ fits)) in
+        not-dropped (writeCommand space) a (byte ∷ []) la
+        (append-cancel-left (bitsOf 8 byte) _ _ (append-cancel-left (ls ++ bitsOfBytes (header (writeCommand space) a)) _ _ heard))
+
+    write-fits : (c : Chip) {ms ls : List Bool} (space : Space) (a byte : ℕ) → Ready n c → Selection (c .state .number) ms ls → a < limitOf n space → byte < 256
+        → WriteFits n c ms ls space a byte
+    write-fits c space a byte ok sel lt small =
+        let own = address-laws n low .own space a lt in
+        rw own at (write-heard c space a byte ok sel (omega (arith, limit-fits n space low)) (rw own lt) small)
 
     pub notice-laws : NoticeLaws n
-    unfolding limitOf bitsOfBytes
+    unfolding limitOf
     notice-laws =
+        let reads = read-sessions n whole low in
         record {
           memory = λ c {ms} {ls} a bytes ok sel la lt size fits.
               let k = keptAddress n a in
-              let first = bytesFrom (dataByte n (c .image)) k (dataSize n - k) in
-              noticed c ms ls 0xF0 a first bytes [] la (bytes-from-length (dataByte n (c .image)) (dataSize n - k) k ∙ sym size)
-              (sym (append-nil _)) (from-here c ms ls Data 0xF0 a (memoryStream n (c .image)) lt (read-sessions n whole low .memory c a ok sel la)) fits;
+              noticed c ms ls 0xF0 a _ bytes [] la (bytes-from-length (dataByte n (c .image)) (dataSize n - k) k ∙ sym size) (memory-begins (c .image) k)
+              (from-kept c ms ls Data 0xF0 a (memoryStream n (c .image)) lt (reads .memory c a ok sel la)) fits;
           status = λ c {ms} {ls} a bytes ok sel la lt size fits.
               let k = keptAddress n a in
-              let first = bytesFrom (statusByte n (c .image)) k (8 - k % 8) in
-              noticed c ms ls 0xAA a first bytes _ la (bytes-from-length (statusByte n (c .image)) (8 - k % 8) k ∙ sym size)
-              refl (from-here c ms ls Status 0xAA a (statusStream n (c .image)) lt (read-sessions n whole low .status c a ok sel la)) fits;
+              noticed c ms ls 0xAA a _ bytes _ la (bytes-from-length (statusByte n (c .image)) (8 - k % 8) k ∙ sym size) refl
+              (from-kept c ms ls Status 0xAA a (statusStream n (c .image)) lt (reads .status c a ok sel la)) fits;
           extended = λ c {ms} {ls} a byte ok sel la lt fits.
-              let k = keptAddress n a in
-              let page = bytesFrom (dataByte n (c .image)) k (32 - k % 32) in
-              let rest = (bitsOfBytes page ++ crcOf page) ++ extendedPages n (c .image) (k / 32 + 1) (n - (k / 32 + 1)) in
-              noticed c ms ls 0xA5 a (redirectionOf n (c .image) (k / 32) ∷ []) (byte ∷ []) rest la refl
-              (simp (append-nil, append-assoc)) (from-here c ms ls Data 0xA5 a (extendedStream n (c .image)) lt (read-sessions n whole low .extended c a ok sel la)) fits;
+              noticed c ms ls 0xA5 a _ (byte ∷ []) _ la refl (extended-begins (c .image) (keptAddress n a))
+              (from-kept c ms ls Data 0xA5 a (extendedStream n (c .image)) lt (reads .extended c a ok sel la)) fits;
           write = write-noticed;
+          memory-fits = λ c {ms} {ls} a ok sel lt.
+              block-heard c ms ls 0xF0 a a _ [] (memory-begins (c .image) a)
+              (from-own c ms ls Data 0xF0 a (memoryStream n (c .image)) lt (reads .memory c a ok sel (omega arith)));
+          status-fits = λ c {ms} {ls} a ok sel lt.
+              block-heard c ms ls 0xAA a a (bytesFrom (statusByte n (c .image)) a (8 - a % 8)) _ refl
+              (from-own c ms ls Status 0xAA a (statusStream n (c .image)) lt (reads .status c a ok sel (omega arith)));
+          extended-fits = λ c {ms} {ls} a ok sel lt.
+              block-heard c ms ls 0xA5 a a (redirectionOf n (c .image) (a / 32) ∷ []) _ (extended-begins (c .image) a)
+              (from-own c ms ls Data 0xA5 a (extendedStream n (c .image)) lt (reads .extended c a ok sel (omega arith)));
+          write-fits = write-fits;
         }

@@ -151,7 +151,7 @@ module _ (n : ℕ) (whole : n % 8 ≡ 0) where
   from-address true f z = f refl
   from-address {img} false f z = rw (z refl) none
 
-  -- an address, or none
+  -- what the test says
   is-in : (space : Space) (a : ℕ) → isAddress n space a ≡ true → a < limitOf n space
   unfolding isAddress
   is-in space a t = ltb-true a (limitOf n space) t

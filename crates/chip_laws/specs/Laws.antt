@@ -1,5 +1,5 @@
 -- What the chip does over whole sessions, in the data sheet's terms, over the page count n.
-use Prim.Native.Nat.{ℕ, _+_, _-_, _*_, _%_, _^_, _<_, _≤_}
+use Prim.Native.Nat.{ℕ, _+_, _-_, _*_, _/_, _%_, _^_, _<_, _≤_}
 use mathlib.Core.Path.{_≡_}
 use mathlib.Core.Bool.{Bool, true, false, not, cond, _&&_}
 use mathlib.Core.List.{List, [], _∷_, _++_, map}
@@ -15,12 +15,13 @@ use Rattle.bus.specs.declared.Event.the-variants.{Reset, Slot, Pulse, PowerLoss
 use Rattle.bus.specs.Slots.{slots, ones, reading, lines}
 use Rattle.crc.specs.Crc.{crc16Of}
 use Rattle.memory.specs.Layout.{imageSize}
+use Rattle.memory.specs.Image.{dataByte, statusByte, redirectionOf}
 use Rattle.memory.specs.Write.{programmed}
 use Rattle.memory_function.specs.declared.stage.MemoryStage.the-variants.{Silent, Receive, Send, Armed}
 use Rattle.memory_function.specs.Limits.{limitOf, isAddress, addressBits, keptAddress}
 use Rattle.rom_function.specs.Rom.{numberBit}
 use Rattle.rom_laws.specs.Rom.{Ask, numberBits, searchBits, searchSent}
-use Rattle.function_laws.specs.Streams.{crcOf, header, memoryStream, statusStream, extendedStream}
+use Rattle.function_laws.specs.Streams.{bytesFrom, crcOf, header, memoryStream, statusStream, extendedStream}
 use Rattle.function_laws.specs.Writes.{writtenFrom}
 use Rattle.chip.specs.declared.event.Stage.{Stage}
 use Rattle.chip.specs.declared.event.Stage.the-variants.{Rom, Memory}
@@ -156,8 +157,8 @@ WriteFits n c ms ls space a byte =
     answers n c (Reset ∷ (slots (ms ++ sent) ++ (slots (bitsOf 8 byte) ++ reading 16)))
     ≡ map accepted (false ∷ ((ls ++ sent) ++ (bitsOf 8 byte ++ crcOf (header (writeCommand space) a ++ (byte ∷ [])))))
 
--- Where the chip sends a CRC, and the master has read all that stands before it, a CRC that fits says that no bit of the address was dropped.
--- (Where the status memory does not have the kept address, the chip is silent and sends none.)
+-- Where the chip sends a CRC, and the master has read all that stands before it, a CRC that fits says that no bit of the address was dropped;
+-- and where none was, the CRC fits. (Where the status memory does not have the kept address, the chip is silent and sends none.)
 pub record NoticeLaws (n : ℕ) : Type 0 where
   pub memory : (c : Chip) {ms ls : List Bool} (a : ℕ) (bytes : List ℕ) → Ready n c → Selection (c .state .number) ms ls → a < 65536
       → keptAddress n a < limitOf n Data → length bytes ≡ limitOf n Data - keptAddress n a → Fits n c ms ls 0xF0 a bytes → a < 2 ^ addressBits n
@@ -167,6 +168,14 @@ pub record NoticeLaws (n : ℕ) : Type 0 where
       → keptAddress n a < limitOf n Data → Fits n c ms ls 0xA5 a (byte ∷ []) → a < 2 ^ addressBits n
   pub write : (c : Chip) {ms ls : List Bool} (space : Space) (a byte : ℕ) → Ready n c → Selection (c .state .number) ms ls → a < 65536
       → keptAddress n a < limitOf n space → byte < 256 → WriteFits n c ms ls space a byte → a < 2 ^ addressBits n
+  pub memory-fits : (c : Chip) {ms ls : List Bool} (a : ℕ) → Ready n c → Selection (c .state .number) ms ls → a < limitOf n Data
+      → Fits n c ms ls 0xF0 a (bytesFrom (dataByte n (c .image)) a (limitOf n Data - a))
+  pub status-fits : (c : Chip) {ms ls : List Bool} (a : ℕ) → Ready n c → Selection (c .state .number) ms ls → a < limitOf n Status
+      → Fits n c ms ls 0xAA a (bytesFrom (statusByte n (c .image)) a (8 - a % 8))
+  pub extended-fits : (c : Chip) {ms ls : List Bool} (a : ℕ) → Ready n c → Selection (c .state .number) ms ls → a < limitOf n Data
+      → Fits n c ms ls 0xA5 a (redirectionOf n (c .image) (a / 32) ∷ [])
+  pub write-fits : (c : Chip) {ms ls : List Bool} (space : Space) (a byte : ℕ) → Ready n c → Selection (c .state .number) ms ls → a < limitOf n space → byte < 256
+      → WriteFits n c ms ls space a byte
 
 -- ---- the DS2505's own numbers
 

@@ -141,7 +141,7 @@ fn memory_command(g: &mut u64) -> u8 {
     }
 }
 
-// An address of either memory, with any of the five bits that the chip drops.
+// An address of either memory, with any of the five bits that the chip drops. The remainder shows that the product fits.
 fn with_dropped_bits(g: &mut u64) -> u64 {
     let upper = draw::below(g, 32) % 32;
     draw::from(g, 0x800 * upper, 0x148)
