@@ -36,6 +36,12 @@
  * 0xFF where no event is told; the values named in the comment follow from the
  * second byte on. All other bytes of the buffer stay as they were.
  *
+ * Modes. The ordinary mode writes with 0Fh and 55h, and each byte's CRC is
+ * compared before its pulse. The quick mode, the data sheet's speed-programming
+ * mode, writes with F3h and F5h, which send no CRC. The chip knows all four
+ * commands. An update or a publisher in the quick mode has _quick at the end of
+ * its function's name; what the mode asks of the contact is said there.
+ *
  * The image of a chip is 2,368 bytes: 2,048 of data (64 pages of 32), then 320
  * of status, addresses 000h to 13Fh. A registration number is 8 bytes, the
  * family code first. A page number is 0 to 63.
@@ -212,6 +218,18 @@ uint32_t ds2505_update(uint8_t *image, size_t image_size,
                        uint8_t page, uint32_t events,
                        uint8_t *answer, size_t answer_size);
 
+/* As ds2505_update, in the quick mode: cut after so many events (0 to 677), or
+   whole (678 or more, up to 0xFFFFFFFF, which is no slower); the page reads as
+   before while events is at most 668, and as new_page from 669 on. The image of
+   a whole update, the answer, the buffers and the codes are those of
+   ds2505_update. On a real bus for a firm contact only: nothing is checked
+   before a pulse. */
+uint32_t ds2505_update_quick(uint8_t *image, size_t image_size,
+                             const uint8_t *number, size_t number_size,
+                             const uint8_t *new_page, size_t new_page_size,
+                             uint8_t page, uint32_t events,
+                             uint8_t *answer, size_t answer_size);
+
 /* ---- the number read ---------------------------------------------------- */
 
 /* Starts a read and calls it once for each reply. events[i] is the event that
@@ -303,6 +321,20 @@ uint32_t ds2505_publisher_run(const uint8_t *image, size_t image_size,
                               uint8_t *events, size_t events_size,
                               uint8_t *answer, size_t answer_size);
 
+/* As ds2505_publisher_run, in the quick mode: 678 events in the place of 1,222.
+   For a firm contact only: nothing is checked before a pulse, and a wrong byte
+   shows only when it is read back (7).
+   Codes: those of ds2505_publisher_run but never 6; told by the last call, 13,
+   7. */
+uint32_t ds2505_publisher_run_quick(const uint8_t *image, size_t image_size,
+                                    const uint8_t *new_page,
+                                    size_t new_page_size,
+                                    uint8_t page,
+                                    const uint8_t *replies,
+                                    size_t replies_size,
+                                    uint8_t *events, size_t events_size,
+                                    uint8_t *answer, size_t answer_size);
+
 /* The state of an update of a page before its first call. The image must be
    the chip's own; later calls are not given it. With code 0 the answer is 0xFF
    alone; with 5 it is 0xFF and the number above 63, with 9 it is 0xFF and the
@@ -319,13 +351,26 @@ uint32_t ds2505_publisher_start(const uint8_t *image, size_t image_size,
                                 uint8_t *state, size_t state_size,
                                 uint8_t *answer, size_t answer_size);
 
+/* As ds2505_publisher_start, for an update in the quick mode. For a firm
+   contact only: nothing is checked before a pulse, and a wrong byte shows only
+   when it is read back (7). The codes are those of ds2505_publisher_start. */
+uint32_t ds2505_publisher_start_quick(const uint8_t *image, size_t image_size,
+                                      const uint8_t *new_page,
+                                      size_t new_page_size,
+                                      uint8_t page,
+                                      uint8_t *state, size_t state_size,
+                                      uint8_t *answer, size_t answer_size);
+
 /* One call, with the reply that the event told last has drawn (in the first
-   call any reply). With code 0 the answer is the next event, or, at the end,
-   0xFF, L, T; asked again after the end it tells the same.
-     state    48 bytes, from ds2505_publisher_start or an earlier call
+   call any reply). The mode is that of the state. With code 0 the answer is the
+   next event, or, at the end, 0xFF, L, T; asked again after the end it tells
+   the same.
+     state    48 bytes, from ds2505_publisher_start, its quick namesake or an
+              earlier call
      answer   16 bytes
    Codes: 10 for the answer, 2 for the reply, 2 for the state (another length
-   too); then 13, 6, 7, each with the stopped state. */
+   too); then 13, 6 (in the ordinary mode only), 7, each with the stopped
+   state. */
 uint32_t ds2505_publisher_call(uint8_t *state, size_t state_size,
                                uint8_t reply,
                                uint8_t *answer, size_t answer_size);

@@ -68,6 +68,18 @@ mod c {
             answer: *mut u8,
             answer_size: usize,
         ) -> u32;
+        pub fn ds2505_update_quick(
+            image: *mut u8,
+            image_size: usize,
+            number: *const u8,
+            number_size: usize,
+            new_page: *const u8,
+            new_page_size: usize,
+            page: u8,
+            events: u32,
+            answer: *mut u8,
+            answer_size: usize,
+        ) -> u32;
         pub fn ds2505_number_run(
             replies: *const u8,
             replies_size: usize,
@@ -118,7 +130,31 @@ mod c {
             answer: *mut u8,
             answer_size: usize,
         ) -> u32;
+        pub fn ds2505_publisher_run_quick(
+            image: *const u8,
+            image_size: usize,
+            new_page: *const u8,
+            new_page_size: usize,
+            page: u8,
+            replies: *const u8,
+            replies_size: usize,
+            events: *mut u8,
+            events_size: usize,
+            answer: *mut u8,
+            answer_size: usize,
+        ) -> u32;
         pub fn ds2505_publisher_start(
+            image: *const u8,
+            image_size: usize,
+            new_page: *const u8,
+            new_page_size: usize,
+            page: u8,
+            state: *mut u8,
+            state_size: usize,
+            answer: *mut u8,
+            answer_size: usize,
+        ) -> u32;
+        pub fn ds2505_publisher_start_quick(
             image: *const u8,
             image_size: usize,
             new_page: *const u8,
@@ -238,6 +274,21 @@ pub fn update(
     unsafe { c::ds2505_update(i, i_size, n, n_size, b, b_size, page, events, a, a_size) }
 }
 
+pub fn update_quick(
+    image: &mut [u8],
+    number: &[u8],
+    new_page: &[u8],
+    page: u8,
+    events: u32,
+    answer: &mut [u8],
+) -> u32 {
+    let (i, i_size) = write(image);
+    let (n, n_size) = read(number);
+    let (b, b_size) = read(new_page);
+    let (a, a_size) = write(answer);
+    unsafe { c::ds2505_update_quick(i, i_size, n, n_size, b, b_size, page, events, a, a_size) }
+}
+
 pub fn number_run(replies: &[u8], events: &mut [u8], answer: &mut [u8]) -> u32 {
     let (r, r_size) = read(replies);
     let (e, e_size) = write(events);
@@ -298,6 +349,24 @@ pub fn publisher_run(
     unsafe { c::ds2505_publisher_run(i, i_size, b, b_size, page, r, r_size, e, e_size, a, a_size) }
 }
 
+pub fn publisher_run_quick(
+    image: &[u8],
+    new_page: &[u8],
+    page: u8,
+    replies: &[u8],
+    events: &mut [u8],
+    answer: &mut [u8],
+) -> u32 {
+    let (i, i_size) = read(image);
+    let (b, b_size) = read(new_page);
+    let (r, r_size) = read(replies);
+    let (e, e_size) = write(events);
+    let (a, a_size) = write(answer);
+    unsafe {
+        c::ds2505_publisher_run_quick(i, i_size, b, b_size, page, r, r_size, e, e_size, a, a_size)
+    }
+}
+
 pub fn publisher_start(
     image: &[u8],
     new_page: &[u8],
@@ -310,6 +379,20 @@ pub fn publisher_start(
     let (s, s_size) = write(state);
     let (a, a_size) = write(answer);
     unsafe { c::ds2505_publisher_start(i, i_size, b, b_size, page, s, s_size, a, a_size) }
+}
+
+pub fn publisher_start_quick(
+    image: &[u8],
+    new_page: &[u8],
+    page: u8,
+    state: &mut [u8],
+    answer: &mut [u8],
+) -> u32 {
+    let (i, i_size) = read(image);
+    let (b, b_size) = read(new_page);
+    let (s, s_size) = write(state);
+    let (a, a_size) = write(answer);
+    unsafe { c::ds2505_publisher_start_quick(i, i_size, b, b_size, page, s, s_size, a, a_size) }
 }
 
 pub fn publisher_call(state: &mut [u8], reply: u8, answer: &mut [u8]) -> u32 {

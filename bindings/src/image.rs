@@ -1,7 +1,8 @@
 //! What is asked of an image.
 
 use crate::{
-    calls, judged, refusal, Final, Published, Refusal, ANSWER_SIZE, NUMBER_SIZE, PAGE_SIZE,
+    calls, judged, refusal, Final, Published, Refusal, WriteMode, ANSWER_SIZE, NUMBER_SIZE,
+    PAGE_SIZE,
 };
 
 /// How a walk along redirection bytes ends.
@@ -44,17 +45,24 @@ pub fn free_page(image: &[u8], other: u8) -> Result<u8, Refusal> {
     }
 }
 
-/// A whole update of a page, cut after so many events: L and T. Refusals 1, 10,
-/// 3, 4, 5, 9 and 8, in this order.
+/// A whole update of a page, cut after so many events: L and T. It has 1,222
+/// events in the ordinary mode and 678 in the quick one; from 1,213 and from 669
+/// on the page reads as the new one. Refusals 1, 10, 3, 4, 5, 9 and 8, in this
+/// order.
 pub fn update(
     image: &mut [u8],
     number: &[u8; NUMBER_SIZE],
     new_page: &[u8],
     page: u8,
+    mode: WriteMode,
     events: u32,
 ) -> Result<Published, Refusal> {
+    let update = match mode {
+        WriteMode::Ordinary => calls::update,
+        WriteMode::Quick => calls::update_quick,
+    };
     let mut answer = [0; ANSWER_SIZE];
-    match calls::update(image, number, new_page, page, events, &mut answer) {
+    match update(image, number, new_page, page, events, &mut answer) {
         0 => Ok(Published {
             l: answer[1],
             t: answer[2],

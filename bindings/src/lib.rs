@@ -2,7 +2,8 @@
 //!
 //! `calls` has the library's functions on slices, with codes and buffers as
 //! `include/ds2505.h` describes them. Over them stand types: events, verdicts,
-//! refusals, the chip, the two reading masters and the publisher.
+//! refusals, the chip, the two reading masters and the publisher. Where the C
+//! interface has a function for each mode of writing, the mode is an argument.
 
 pub mod calls;
 
@@ -68,6 +69,17 @@ impl Event {
             _ => None,
         }
     }
+}
+
+/// How bytes are written: each memory has two write commands.
+#[derive(Clone, Copy, Debug, PartialEq, Eq)]
+pub enum WriteMode {
+    /// 0Fh and 55h: each byte's CRC is compared before its pulse.
+    Ordinary,
+    /// F3h and F5h, the data sheet's speed-programming mode, for a firm contact
+    /// only: nothing is checked before a pulse, and a wrong byte shows only when
+    /// it is read back (7).
+    Quick,
 }
 
 /// A refusal: its number, and the value that 5 and 9 give back.

@@ -1,8 +1,8 @@
 //! The master that supersedes a page.
 
 use crate::{
-    calls, events_of, refusal, reply_bytes, told, Answer, AnswerBuffer, Refusal, Run, ANSWER_SIZE,
-    PUBLISHER_STATE_SIZE,
+    calls, events_of, refusal, reply_bytes, told, Answer, AnswerBuffer, Refusal, Run, WriteMode,
+    ANSWER_SIZE, PUBLISHER_STATE_SIZE,
 };
 
 /// The two pages of an update.
@@ -27,11 +27,16 @@ pub fn publisher_run(
     image: &[u8],
     new_page: &[u8],
     page: u8,
+    mode: WriteMode,
     replies: &[bool],
 ) -> Result<Run<Published>, Refusal> {
+    let run = match mode {
+        WriteMode::Ordinary => calls::publisher_run,
+        WriteMode::Quick => calls::publisher_run_quick,
+    };
     let mut events = vec![0; replies.len()];
     let mut answer = [0; ANSWER_SIZE];
-    let code = calls::publisher_run(
+    let code = run(
         image,
         new_page,
         page,
@@ -39,7 +44,7 @@ pub fn publisher_run(
         &mut events,
         &mut answer,
     );
-    // The calls tell no other codes.
+    // The calls tell no other codes, and 6 in the ordinary mode only.
     if !matches!(code, 0 | 6 | 7 | 13) {
         return Err(refusal(code, &answer));
     }
@@ -57,10 +62,19 @@ pub struct Publisher {
 
 impl Publisher {
     /// Refusals 1, 10, 3, 4, 5, 9 and 8, in this order.
-    pub fn start(image: &[u8], new_page: &[u8], page: u8) -> Result<Publisher, Refusal> {
+    pub fn start(
+        image: &[u8],
+        new_page: &[u8],
+        page: u8,
+        mode: WriteMode,
+    ) -> Result<Publisher, Refusal> {
+        let start = match mode {
+            WriteMode::Ordinary => calls::publisher_start,
+            WriteMode::Quick => calls::publisher_start_quick,
+        };
         let mut state = [0; PUBLISHER_STATE_SIZE];
         let mut answer = [0; ANSWER_SIZE];
-        match calls::publisher_start(image, new_page, page, &mut state, &mut answer) {
+        match start(image, new_page, page, &mut state, &mut answer) {
             0 => Ok(Publisher { state }),
             code => Err(refusal(code, &answer)),
         }
@@ -75,7 +89,8 @@ impl Publisher {
         &self.state
     }
 
-    /// Refusals 13, 6 and 7 (2 with bytes that are no state).
+    /// In the mode of the state. Refusals 13, 6 (in the ordinary mode only) and
+    /// 7 (2 with bytes that are no state).
     pub fn call(&mut self, reply: bool) -> Result<Answer<Published>, Refusal> {
         let mut answer = [0; ANSWER_SIZE];
         let code = calls::publisher_call(&mut self.state, u8::from(reply), &mut answer);

@@ -5,8 +5,8 @@ mod common;
 #[path = "../src/bin/bench/plain.rs"]
 mod plain;
 
-use common::{session, some_number, to_model};
-use ds2505::{chip_run, Chip, Event, Refusal};
+use common::{crc_slots, session, some_number, to_model, write_commands, MODES};
+use ds2505::{chip_run, Chip, Event, Refusal, WriteMode};
 use ds2505_model::bits::bits_of;
 use ds2505_model::chip::Chip as ModelChip;
 use ds2505_model::memory::blank_image;
@@ -60,6 +60,79 @@ fn whole_runs() {
         assert_eq!(plain_image[..], after);
     }
     assert!(changed > 1000, "{changed}");
+}
+
+/// A write of three bytes: its events up to the last slot of the third byte
+/// read back.
+fn write_events(mode: WriteMode, command: u8, address: u16, byte: u8) -> Vec<Event> {
+    let [low, high] = address.to_le_bytes();
+    let mut events = vec![Event::Reset];
+    events.extend(
+        bits_of(&[0xCC, command, low, high])
+            .into_iter()
+            .map(Event::Slot),
+    );
+    for byte in [byte, 0x5A, 0x0F] {
+        events.extend(bits_of(&[byte]).into_iter().map(Event::Slot));
+        events.extend(vec![Event::Slot(true); crc_slots(mode)]);
+        events.push(Event::Pulse);
+        events.extend([Event::Slot(true); 8]);
+    }
+    events
+}
+
+/// Writes with one event too many or one too few, of each kind and at every
+/// place; and in the slots of the other mode. A chip is armed after the CRC in
+/// the ordinary mode and after the eighth data bit in the quick mode, and at no
+/// other place does a pulse change anything.
+#[test]
+fn writes_with_one_wrong_event() {
+    let mut g = Generator::new(104);
+    let number = some_number(&mut g);
+    for mode in MODES {
+        for (command, address) in write_commands(mode).into_iter().zip([0x123, 0x105]) {
+            let mut sessions = Vec::new();
+            for other in MODES {
+                sessions.push(write_events(other, command, address, 0xA7));
+            }
+            let right = write_events(mode, command, address, 0xA7);
+            for place in 0..=right.len() {
+                for event in [
+                    Event::Pulse,
+                    Event::Slot(false),
+                    Event::Slot(true),
+                    Event::Reset,
+                    Event::PowerLoss,
+                ] {
+                    let mut events = right.clone();
+                    events.insert(place, event);
+                    sessions.push(events);
+                }
+                if place < right.len() {
+                    let mut events = right.clone();
+                    events.remove(place);
+                    sessions.push(events);
+                }
+            }
+            let before = blank_image();
+            for events in sessions {
+                let (replies, after) = model_run(number, &events, &before);
+                let mut proved = before.clone();
+                assert_eq!(chip_run(&number, &events, &mut proved), Ok(replies));
+                assert_eq!(proved, after);
+            }
+
+            // The first pulse comes after 41 events and the CRC.
+            let pulse = 1 + 8 * 5 + crc_slots(mode);
+            for place in 0..=pulse {
+                let mut events = right[..place].to_vec();
+                events.push(Event::Pulse);
+                let mut image = before.clone();
+                chip_run(&number, &events, &mut image).unwrap();
+                assert_eq!(image != before, place == pulse);
+            }
+        }
+    }
 }
 
 /// Pieces of any length, none and one included, give what the whole gives.
@@ -124,24 +197,32 @@ fn all_commands_and_ends() {
     let before = any_image(&mut g);
     let number = some_number(&mut g);
     let mut sessions = Vec::new();
-    for byte in 0..=255 {
-        sessions.push(vec![byte]);
-        sessions.push(vec![0xCC, byte, 0x00, 0x00]);
-    }
-    for command in [0xF0, 0xAA, 0xA5, 0x0F, 0x55] {
-        for address in (0x7F0..0x810u16).chain(0x130..0x150).chain([0, 0xFFFF]) {
-            let [low, high] = address.to_le_bytes();
-            sessions.push(vec![0xCC, command, low, high, 0x5A]);
-        }
-    }
-    for bytes in sessions {
+    let read_events = |bytes: &[u8]| {
         let mut events = vec![Event::Reset];
-        events.extend(bits_of(&bytes).into_iter().map(Event::Slot));
+        events.extend(bits_of(bytes).into_iter().map(Event::Slot));
         for _ in 0..3 {
             events.extend([Event::Slot(true); 16]);
             events.push(Event::Pulse);
             events.extend([Event::Slot(true); 8 + 300]);
         }
+        events
+    };
+    for byte in 0..=255 {
+        sessions.push(read_events(&[byte]));
+        sessions.push(read_events(&[0xCC, byte, 0x00, 0x00]));
+    }
+    for address in (0x7F0..0x810u16).chain(0x130..0x150).chain([0, 0xFFFF]) {
+        let [low, high] = address.to_le_bytes();
+        for command in [0xF0, 0xAA, 0xA5] {
+            sessions.push(read_events(&[0xCC, command, low, high]));
+        }
+        for mode in MODES {
+            for command in write_commands(mode) {
+                sessions.push(write_events(mode, command, address, 0x5A));
+            }
+        }
+    }
+    for events in sessions {
         let (replies, after) = model_run(number, &events, &before);
         let mut proved = before.clone();
         assert_eq!(chip_run(&number, &events, &mut proved), Ok(replies));
@@ -186,30 +267,26 @@ fn tray() {
     let replies = read(&mut image, &[0xCC, 0xAA, 0x40, 0x09], 32);
     assert_eq!(replies, [true; 32]);
 
-    // 0Fh over F0h gives 00h; FFh over 5Ah gives 5Ah; over a protected 5Ah, 0Fh
-    // gives 5Ah.
+    // In either mode, 0Fh over F0h gives 00h; FFh over 5Ah gives 5Ah; over a
+    // protected 5Ah, 0Fh gives 5Ah.
     for (old, sent, protected, new) in [
         (0xF0, 0x0F, false, 0x00),
         (0x5A, 0xFF, false, 0x5A),
         (0x5A, 0x0F, true, 0x5A),
     ] {
-        let mut image = blank_image();
-        image[0x123] = old;
-        if protected {
-            common::clear_bit(&mut image, 0x000, 0x123 / 32);
+        for mode in MODES {
+            let mut image = blank_image();
+            image[0x123] = old;
+            if protected {
+                common::clear_bit(&mut image, 0x000, 0x123 / 32);
+            }
+            let mut events = write_events(mode, write_commands(mode)[0], 0x123, sent);
+            // The first byte only: its pulse, and eight slots.
+            events.truncate(1 + 8 * 5 + crc_slots(mode) + 1 + 8);
+            let replies = chip_run(&number, &events, &mut image).unwrap();
+            assert_eq!(byte_of(&replies[replies.len() - 8..]), new);
+            assert_eq!(image[0x123], new);
         }
-        let mut events = vec![Event::Reset];
-        events.extend(
-            bits_of(&[0xCC, 0x0F, 0x23, 0x01, sent])
-                .into_iter()
-                .map(Event::Slot),
-        );
-        events.extend([Event::Slot(true); 16]);
-        events.push(Event::Pulse);
-        events.extend([Event::Slot(true); 8]);
-        let replies = chip_run(&number, &events, &mut image).unwrap();
-        assert_eq!(byte_of(&replies[replies.len() - 8..]), new);
-        assert_eq!(image[0x123], new);
     }
 }
 

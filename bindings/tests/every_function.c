@@ -41,6 +41,7 @@ static int crcs(void)
 
 static int on_an_image(void)
 {
+    static uint8_t quick[DS2505_IMAGE_SIZE];
     uint8_t old[DS2505_PAGE_SIZE];
     memset(image, 0xFF, sizeof image);
     memset(bytes, 0x3C, sizeof bytes);
@@ -51,10 +52,17 @@ static int on_an_image(void)
     CHECK(ds2505_free_page(image, sizeof image, 5, answer, sizeof answer)
           == DS2505_ACCEPTED);
     CHECK(answer[0] == DS2505_NO_EVENT && answer[1] == 1);
+    memcpy(quick, image, sizeof quick);
     CHECK(ds2505_update(image, sizeof image, number, sizeof number, bytes,
                         sizeof bytes, 5, 1222, answer, sizeof answer)
           == DS2505_ACCEPTED);
     CHECK(answer[0] == DS2505_NO_EVENT && answer[1] == 5 && answer[2] == 1);
+    memset(answer, 0, sizeof answer);
+    CHECK(ds2505_update_quick(quick, sizeof quick, number, sizeof number,
+                              bytes, sizeof bytes, 5, 678, answer,
+                              sizeof answer) == DS2505_ACCEPTED);
+    CHECK(answer[0] == DS2505_NO_EVENT && answer[1] == 5 && answer[2] == 1);
+    CHECK(memcmp(quick, image, sizeof quick) == 0);
     CHECK(ds2505_walk(image, sizeof image, 5, answer, sizeof answer)
           == DS2505_ACCEPTED);
     CHECK(answer[1] == 1 && answer[2] == 1);
@@ -135,7 +143,33 @@ static int page_read(void)
     return 0;
 }
 
-static int publish(void)
+/* The start and the run of an update in a mode. */
+static uint32_t publisher_start(int quick)
+{
+    if (quick)
+        return ds2505_publisher_start_quick(image, sizeof image, bytes,
+                                            sizeof bytes, 5, publisher,
+                                            sizeof publisher, answer,
+                                            sizeof answer);
+    return ds2505_publisher_start(image, sizeof image, bytes, sizeof bytes, 5,
+                                  publisher, sizeof publisher, answer,
+                                  sizeof answer);
+}
+
+static uint32_t publisher_run(int quick, const uint8_t *from, size_t calls,
+                              uint8_t *told)
+{
+    if (quick)
+        return ds2505_publisher_run_quick(from, sizeof image, bytes,
+                                          sizeof bytes, 5, replies, calls,
+                                          told, calls, answer, sizeof answer);
+    return ds2505_publisher_run(from, sizeof image, bytes, sizeof bytes, 5,
+                                replies, calls, told, calls, answer,
+                                sizeof answer);
+}
+
+/* An update of so many events in a mode, with its naming pulse. */
+static int publish(int quick, size_t all, size_t pulse)
 {
     static uint8_t other[DS2505_IMAGE_SIZE];
     size_t calls = 0;
@@ -143,9 +177,7 @@ static int publish(void)
     uint8_t told[2000];
     memset(bytes, 0xA5, sizeof bytes);
     memcpy(other, image, sizeof other);
-    CHECK(ds2505_publisher_start(image, sizeof image, bytes, sizeof bytes, 5,
-                                 publisher, sizeof publisher, answer,
-                                 sizeof answer) == DS2505_ACCEPTED);
+    CHECK(publisher_start(quick) == DS2505_ACCEPTED);
     CHECK(answer[0] == DS2505_NO_EVENT);
     do {
         replies[calls] = reply;
@@ -158,14 +190,28 @@ static int publish(void)
                                      sizeof image, &reply, 1)
                   == DS2505_ACCEPTED);
     } while (answer[0] != DS2505_NO_EVENT);
-    CHECK(calls == 1223 && answer[1] == 1 && answer[2] == 2);
-    CHECK(events[1212] == DS2505_EVENT_PULSE);
+    CHECK(calls == all + 1 && answer[1] == 1 && answer[2] == 2);
+    CHECK(events[pulse - 1] == DS2505_EVENT_PULSE);
     CHECK(memcmp(image + 32 * 2, bytes, sizeof bytes) == 0);
-    CHECK(ds2505_publisher_run(other, sizeof other, bytes, sizeof bytes, 5,
-                               replies, calls, told, calls, answer,
-                               sizeof answer) == DS2505_ACCEPTED);
+    CHECK(publisher_run(quick, other, calls, told) == DS2505_ACCEPTED);
     CHECK(memcmp(told, events, calls) == 0);
     CHECK(answer[1] == 1 && answer[2] == 2);
+    return 0;
+}
+
+/* The same update in both modes leaves the same image. */
+static int publish_twice(void)
+{
+    static uint8_t before[DS2505_IMAGE_SIZE];
+    static uint8_t after[DS2505_IMAGE_SIZE];
+    memcpy(before, image, sizeof before);
+    if (publish(1, 678, 669))
+        return 1;
+    memcpy(after, image, sizeof after);
+    memcpy(image, before, sizeof image);
+    if (publish(0, 1222, 1213))
+        return 1;
+    CHECK(memcmp(image, after, sizeof image) == 0);
     return 0;
 }
 
@@ -214,6 +260,9 @@ static int nothing(void)
     CHECK(ds2505_update(NULL, 0, NULL, 0, NULL, 0, 0, 0, NULL, 0) == 10);
     CHECK(ds2505_update(NULL, 0, number, 8, NULL, 0, 0, 0, answer,
                         sizeof answer) == 1);
+    CHECK(ds2505_update_quick(NULL, 0, NULL, 0, NULL, 0, 0, 0, NULL, 0) == 10);
+    CHECK(ds2505_update_quick(NULL, 0, number, 8, NULL, 0, 0, 0, answer,
+                              sizeof answer) == 1);
     CHECK(ds2505_number_run(NULL, 0, NULL, 0, NULL, 0) == 10);
     CHECK(ds2505_number_run(NULL, 0, NULL, 0, answer, sizeof answer) == 0);
     CHECK(answer[0] == DS2505_EVENT_RESET);
@@ -231,10 +280,19 @@ static int nothing(void)
           == 10);
     CHECK(ds2505_publisher_run(NULL, 0, NULL, 0, 0, NULL, 0, NULL, 0, answer,
                                sizeof answer) == 1);
+    CHECK(ds2505_publisher_run_quick(NULL, 0, NULL, 0, 0, NULL, 0, NULL, 0,
+                                     NULL, 0) == 10);
+    CHECK(ds2505_publisher_run_quick(NULL, 0, NULL, 0, 0, NULL, 0, NULL, 0,
+                                     answer, sizeof answer) == 1);
     CHECK(ds2505_publisher_start(NULL, 0, NULL, 0, 0, NULL, 0, NULL, 0) == 10);
     CHECK(ds2505_publisher_start(image, sizeof image, NULL, 0, 0, publisher,
                                  sizeof publisher, answer, sizeof answer)
           == 10);
+    CHECK(ds2505_publisher_start_quick(NULL, 0, NULL, 0, 0, NULL, 0, NULL, 0)
+          == 10);
+    CHECK(ds2505_publisher_start_quick(image, sizeof image, NULL, 0, 0,
+                                       publisher, sizeof publisher, answer,
+                                       sizeof answer) == 10);
     CHECK(ds2505_publisher_call(NULL, 0, 0, NULL, 0) == 10);
     CHECK(ds2505_sheet_write(NULL, 0, NULL, 0, NULL, 0) == 10);
     CHECK(ds2505_sheet_read(NULL, 0, NULL, 0, NULL, 0) == 10);
@@ -247,9 +305,9 @@ static int nothing(void)
 
 int main(void)
 {
-    if (crcs() || on_an_image() || number_read() || page_read() || publish()
-        || sheets() || nothing())
+    if (crcs() || on_an_image() || number_read() || page_read()
+        || publish_twice() || sheets() || nothing())
         return 1;
-    puts("all 21 functions");
+    puts("all 24 functions");
     return 0;
 }

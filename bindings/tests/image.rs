@@ -2,11 +2,13 @@
 
 mod common;
 
-use common::{clear_bit, image_to_update, published, refusal, some_image, status, verdict};
-use ds2505::{free_page, page, update, walk, Final, Published, Refusal, Verdict};
+use common::{
+    all_events, clear_bit, image_to_update, mode_of_model, naming_pulse, published, refusal,
+    some_image, start_model, status, verdict, MODES,
+};
+use ds2505::{free_page, page, update, walk, Final, Published, Refusal, Verdict, WriteMode};
 use ds2505_model as model;
 use ds2505_model::memory::blank_image;
-use ds2505_model::publisher::Publisher;
 use ds2505_model::random::{chain_image, Generator};
 
 /// Every page number there is, pages above 63 too.
@@ -70,53 +72,78 @@ fn tray() {
     image[status(0x100 + 63)] = 255 - 200;
     assert_eq!(walk(&image, 0), Ok(Verdict::Outside(200)));
 
-    let mut image = blank_image();
-    let new = [0x11; 32];
-    let pages_of = |image: &[u8], page| update(&mut image.to_vec(), &[0; 8], &new, page, 0);
-    assert_eq!(pages_of(&image, 0), Ok(Published { l: 0, t: 1 }));
-    assert_eq!(pages_of(&image, 1), Ok(Published { l: 1, t: 2 }));
-    for page in 2..64 {
-        clear_bit(&mut image, 0x040, page);
-    }
-    let refused = Refusal {
-        number: 8,
-        value: None,
-    };
-    assert_eq!(pages_of(&image, 1), Err(refused));
+    for mode in MODES {
+        let mut image = blank_image();
+        let new = [0x11; 32];
+        let pages_of =
+            |image: &[u8], page| update(&mut image.to_vec(), &[0; 8], &new, page, mode, 0);
+        assert_eq!(pages_of(&image, 0), Ok(Published { l: 0, t: 1 }));
+        assert_eq!(pages_of(&image, 1), Ok(Published { l: 1, t: 2 }));
+        for page in 2..64 {
+            clear_bit(&mut image, 0x040, page);
+        }
+        let refused = Refusal {
+            number: 8,
+            value: None,
+        };
+        assert_eq!(pages_of(&image, 1), Err(refused));
 
-    // Cut after event 1,212: old page. After 1,213: new page.
-    let mut image = blank_image();
-    image[..32].fill(0x42);
-    for (cut, end, bytes) in [(1212, (0, 0), [0x42; 32]), (1213, (1, 1), new)] {
-        let mut left = image.clone();
-        update(&mut left, &[0; 8], &new, 0, cut).unwrap();
-        let (reached, hops) = end;
-        assert_eq!(
-            walk(&left, 0),
-            Ok(Verdict::Final(Final {
-                page: reached,
-                hops
-            }))
-        );
-        assert_eq!(page(&left, reached), Ok(bytes));
+        // Cut before the pulse that names the new page: old page. After it: new
+        // page.
+        let mut image = blank_image();
+        image[..32].fill(0x42);
+        let pulse = naming_pulse(mode) as u32;
+        for (cut, end, bytes) in [(pulse - 1, (0, 0), [0x42; 32]), (pulse, (1, 1), new)] {
+            let mut left = image.clone();
+            update(&mut left, &[0; 8], &new, 0, mode, cut).unwrap();
+            let (reached, hops) = end;
+            assert_eq!(
+                walk(&left, 0),
+                Ok(Verdict::Final(Final {
+                    page: reached,
+                    hops
+                }))
+            );
+            assert_eq!(page(&left, reached), Ok(bytes));
+        }
     }
 }
 
-/// The proved update cut after so many events, against the model's.
-fn assert_same_update(g: &mut Generator, image: &[u8], new: &[u8], page: u8, cut: u32) {
+/// The proved update cut after so many events, against the model's: the image
+/// that it leaves.
+fn assert_same_update(
+    g: &mut Generator,
+    image: &[u8],
+    new: &[u8],
+    page: u8,
+    mode: WriteMode,
+    cut: u32,
+) -> Vec<u8> {
     let mut left = image.to_vec();
-    let told = update(&mut left, &g.bytes(), new, page, cut);
-    match Publisher::start(image, new, page) {
+    let told = update(&mut left, &g.bytes(), new, page, mode, cut);
+    match start_model(image, new, page, mode) {
         Ok(publisher) => {
             assert_eq!(told, Ok(published(publisher.pages())));
-            let run = model::publisher::update(image, new, page, Some(cut as usize)).unwrap();
-            assert_eq!(left, run.image, "cut after {cut}");
+            let cut = Some(cut as usize);
+            let run = model::publisher::update(image, new, page, mode_of_model(mode), cut).unwrap();
+            assert_eq!(left, run.image, "{mode:?}, cut after {cut:?}");
         }
         Err(reason) => {
             assert_eq!(told, Err(refusal(reason)));
             assert_eq!(left, image);
         }
     }
+    left
+}
+
+/// What a page reads as.
+fn reading(image: &[u8], from: u8) -> (Verdict, Option<[u8; 32]>) {
+    let verdict = walk(image, from).unwrap();
+    let bytes = match verdict {
+        Verdict::Final(end) => Some(page(image, end.page).unwrap()),
+        _ => None,
+    };
+    (verdict, bytes)
 }
 
 #[test]
@@ -133,10 +160,22 @@ fn updates_cut_after_every_event() {
     }
     for (image, page) in cases {
         let new: [u8; 32] = g.bytes();
-        for cut in 0..=1225 {
-            assert_same_update(&mut g, &image, &new, page, cut);
-        }
-        assert_same_update(&mut g, &image, &new, page, 5000);
+        let old = reading(&image, page);
+        let whole = MODES.map(|mode| {
+            let last = all_events(mode) + 3;
+            for cut in 0..=last {
+                let left = assert_same_update(&mut g, &image, &new, page, mode, cut as u32);
+                let now = reading(&left, page);
+                if cut < naming_pulse(mode) {
+                    assert_eq!(now, old, "{mode:?}, cut after {cut}");
+                } else {
+                    assert_eq!(now.1, Some(new), "{mode:?}, cut after {cut}");
+                }
+            }
+            assert_same_update(&mut g, &image, &new, page, mode, 5000)
+        });
+        // Both modes leave the same image.
+        assert_eq!(whole[0], whole[1]);
     }
 }
 
@@ -151,25 +190,30 @@ fn updates_cut_anywhere() {
             image_to_update(&mut g)
         };
         let new: [u8; 32] = g.bytes();
-        ran += usize::from(Publisher::start(&image, &new, page).is_ok());
-        let cut = match g.below(4) {
-            0 => g.below(70),
-            1 => 1150 + g.below(80),
-            _ => g.below(1230),
-        };
-        assert_same_update(&mut g, &image, &new, page, cut as u32);
+        ran += usize::from(start_model(&image, &new, page, WriteMode::Ordinary).is_ok());
+        for mode in MODES {
+            let all = all_events(mode) as u64;
+            let cut = match g.below(4) {
+                0 => g.below(70),
+                1 => all - 72 + g.below(80),
+                _ => g.below(all + 8),
+            };
+            assert_same_update(&mut g, &image, &new, page, mode, cut as u32);
+        }
     }
     assert!(ran > 2000, "{ran}");
 }
 
-/// One image updated again and again until there is no room.
+/// One image updated again and again, in both modes by turns, until there is no
+/// room.
 #[test]
 fn updates_until_no_page_is_left() {
     let mut g = Generator::new(203);
     let mut image = blank_image();
     for round in 1..64 {
         let new: [u8; 32] = g.bytes();
-        let told = update(&mut image, &g.bytes(), &new, 0, u32::MAX >> 12);
+        let mode = MODES[usize::from(round) % 2];
+        let told = update(&mut image, &g.bytes(), &new, 0, mode, u32::MAX);
         let expected = Published {
             l: round - 1,
             t: round,
@@ -186,5 +230,10 @@ fn updates_until_no_page_is_left() {
         number: 8,
         value: None,
     };
-    assert_eq!(update(&mut image, &[0; 8], &[0; 32], 0, 1222), Err(refused));
+    for mode in MODES {
+        assert_eq!(
+            update(&mut image, &[0; 8], &[0; 32], 0, mode, 1222),
+            Err(refused)
+        );
+    }
 }

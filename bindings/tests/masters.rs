@@ -4,12 +4,13 @@
 mod common;
 
 use common::{
-    any_event, image_to_update, published, reached, refusal, same, session, some_damage,
-    some_image, some_number, sound_number, to_model, told, Damage,
+    all_events, any_event, image_to_update, mode_of_model, naming_pulse, published, reached,
+    refusal, same, session, some_damage, some_image, some_number, sound_number, start_model,
+    to_model, told, Damage, MODES,
 };
 use ds2505::{
     number_run, page_run, publisher_run, Answer, Chip, Event, NumberRead, PageRead, Publisher,
-    Refusal,
+    Refusal, WriteMode,
 };
 use ds2505_model as model;
 use ds2505_model::chip::Chip as ModelChip;
@@ -249,34 +250,48 @@ fn page_reads_on_lines_with_right_crcs() {
     assert!((57 * 64..=3921).contains(&longest), "{longest}");
 }
 
+/// The codes that a publisher's calls tell in a mode.
+fn publisher_codes(mode: WriteMode) -> &'static [usize] {
+    match mode {
+        WriteMode::Ordinary => &[0, 6, 7, 13],
+        WriteMode::Quick => &[0, 7, 13],
+    }
+}
+
 #[test]
 fn publishers() {
     let mut g = Generator::new(303);
-    let mut seen = [0usize; 16];
-    for _ in 0..3000 {
-        let (image, page) = image_to_update(&mut g);
-        let new: [u8; 32] = g.bytes();
-        let mut chip = ModelChip::power_up(g.bytes(), image.clone()).unwrap();
-        let damage = some_damage(&mut g, 1222);
-        let mut master = model::publisher::Publisher::start(&image, &new, page).unwrap();
-        let (replies, answers) = replies_of(&mut g, &damage, &mut chip, |reply| {
-            told(master.call(reply), published)
-        });
-        let events = events_of(&answers);
-        seen[code(answers.last().unwrap()) as usize] += 1;
+    for mode in MODES {
+        let mut seen = [0usize; 16];
+        for _ in 0..3000 {
+            let (image, page) = image_to_update(&mut g);
+            let new: [u8; 32] = g.bytes();
+            let mut chip = ModelChip::power_up(g.bytes(), image.clone()).unwrap();
+            let damage = some_damage(&mut g, all_events(mode));
+            let mut master = start_model(&image, &new, page, mode).unwrap();
+            let (replies, answers) = replies_of(&mut g, &damage, &mut chip, |reply| {
+                told(master.call(reply), published)
+            });
+            let events = events_of(&answers);
+            seen[code(answers.last().unwrap()) as usize] += 1;
 
-        for length in some_lengths(&mut g, replies.len()) {
-            let run = publisher_run(&image, &new, page, &replies[..length]).unwrap();
-            assert_eq!(run.events, events[..length]);
-            assert_eq!(run.last, last_of(&answers[..length]));
+            for length in some_lengths(&mut g, replies.len()) {
+                let run = publisher_run(&image, &new, page, mode, &replies[..length]).unwrap();
+                assert_eq!(run.events, events[..length]);
+                assert_eq!(run.last, last_of(&answers[..length]));
+            }
+            let mut proved = Publisher::start(&image, &new, page, mode).unwrap();
+            for (&reply, answer) in replies.iter().zip(&answers) {
+                assert_eq!(proved.call(reply), *answer);
+            }
         }
-        let mut proved = Publisher::start(&image, &new, page).unwrap();
-        for (&reply, answer) in replies.iter().zip(&answers) {
-            assert_eq!(proved.call(reply), *answer);
+        for (number, &count) in seen.iter().enumerate() {
+            if publisher_codes(mode).contains(&number) {
+                assert!(count > 15, "{mode:?}: {seen:?}");
+            } else {
+                assert_eq!(count, 0, "{mode:?}: {seen:?}");
+            }
         }
-    }
-    for number in [0, 6, 7, 13] {
-        assert!(seen[number] > 15, "{seen:?}");
     }
 }
 
@@ -313,21 +328,87 @@ fn every_single_wrong_reply_to_a_reader() {
     }
 }
 
-/// Every single wrong reply of one update.
+/// Every single wrong reply of one update in each mode.
 #[test]
 fn every_single_wrong_reply_to_a_publisher() {
     let mut g = Generator::new(304);
     let (image, page) = image_to_update(&mut g);
     let new: [u8; 32] = g.bytes();
-    for wrong in 0..1222 {
-        let mut chip = ModelChip::power_up([0; 8], image.clone()).unwrap();
-        let mut master = model::publisher::Publisher::start(&image, &new, page).unwrap();
-        let (replies, answers) = replies_of(&mut g, &Damage::At(wrong), &mut chip, |reply| {
-            told(master.call(reply), published)
-        });
-        let run = publisher_run(&image, &new, page, &replies).unwrap();
-        assert_eq!(run.events, events_of(&answers));
-        assert_eq!(run.last, *answers.last().unwrap());
+    for mode in MODES {
+        let mut seen = [0usize; 16];
+        for wrong in 0..all_events(mode) {
+            let mut chip = ModelChip::power_up([0; 8], image.clone()).unwrap();
+            let mut master = start_model(&image, &new, page, mode).unwrap();
+            let (replies, answers) = replies_of(&mut g, &Damage::At(wrong), &mut chip, |reply| {
+                told(master.call(reply), published)
+            });
+            let run = publisher_run(&image, &new, page, mode, &replies).unwrap();
+            assert_eq!(run.events, events_of(&answers));
+            assert_eq!(run.last, *answers.last().unwrap());
+            seen[code(&run.last) as usize] += 1;
+        }
+        // 34 bytes are read back, with a CRC before each in the ordinary mode,
+        // and there are 4 resets.
+        let crc_bits = match mode {
+            WriteMode::Ordinary => 34 * 16,
+            WriteMode::Quick => 0,
+        };
+        assert_eq!([seen[6], seen[7], seen[13]], [crc_bits, 34 * 8, 4]);
+        let rest = all_events(mode) - crc_bits - 34 * 8 - 4;
+        assert_eq!(seen[0], rest);
+    }
+}
+
+/// A byte that the bus changes on its way to the chip. The chip's CRC shows it
+/// before the pulse in the ordinary mode, and the chip stays as it was. In the
+/// quick mode it is written, and shows only when it is read back.
+#[test]
+fn a_byte_changed_on_its_way_to_the_chip() {
+    let mut g = Generator::new(310);
+    let image = ds2505_model::memory::blank_image();
+    let new: [u8; 32] = g.bytes();
+    for mode in MODES {
+        // Each bit of the first byte of the second write, which takes T's first
+        // byte: two writes' heads and one written byte come before it.
+        let crc = common::crc_slots(mode);
+        let first = 33 + 8 + crc + 1 + 8 + 33;
+        for wrong in first..first + 8 {
+            let mut chip = Chip::power_up(&[0; 8]);
+            let mut proved_image = image.clone();
+            let mut model = ModelChip::power_up([0; 8], image.clone()).unwrap();
+            let mut master = Publisher::start(&image, &new, 0, mode).unwrap();
+            let mut other = start_model(&image, &new, 0, mode).unwrap();
+            let mut reply = true;
+            let mut events = 0;
+            let end = loop {
+                let answer = master.call(reply);
+                assert_eq!(answer, told(other.call(reply), published));
+                let event = match answer {
+                    Ok(Answer::Event(event)) => event,
+                    Ok(Answer::End(pages)) => panic!("{pages:?}"),
+                    Err(refusal) => break refusal.number,
+                };
+                let event = match event {
+                    Event::Slot(bit) if events == wrong => Event::Slot(!bit),
+                    event => event,
+                };
+                reply = chip.event(event, &mut proved_image).unwrap();
+                assert_eq!(reply, model.event(to_model(event)));
+                events += 1;
+            };
+            assert_eq!(proved_image, model.image);
+            let byte = new[0] ^ 1 << (wrong - first);
+            match mode {
+                WriteMode::Ordinary => {
+                    assert_eq!((end, events), (6, first + 8 + 16));
+                    assert_eq!(proved_image[32], 0xFF);
+                }
+                WriteMode::Quick => {
+                    assert_eq!((end, events), (7, first + 8 + 1 + 8));
+                    assert_eq!(proved_image[32], byte);
+                }
+            }
+        }
     }
 }
 
@@ -343,15 +424,25 @@ fn starts() {
         }
         let new = vec![0x33; if g.once_in(20) { 31 } else { 32 }];
         let page = g.below(70) as u8;
-        let expected = model::publisher::Publisher::start(&image, &new, page)
-            .map(|publisher| published(publisher.pages()))
-            .map_err(refusal);
-        seen[expected.map_or_else(|refusal| refusal.number as usize, |_| 0)] += 1;
-        let started = Publisher::start(&image, &new, page);
-        assert_eq!(started.map(|_| ()), expected.map(|_| ()));
-        let run = publisher_run(&image, &new, page, &[]);
-        let nothing_told = expected.map(|_| Ok(Answer::Event(Event::Reset)));
-        assert_eq!(run.map(|run| run.last), nothing_told);
+        for mode in MODES {
+            let expected = start_model(&image, &new, page, mode)
+                .map(|publisher| published(publisher.pages()))
+                .map_err(refusal);
+            seen[expected.map_or_else(|refusal| refusal.number as usize, |_| 0)] += 1;
+            let started = Publisher::start(&image, &new, page, mode);
+            assert_eq!(started.map(|_| ()), expected.map(|_| ()));
+            let run = publisher_run(&image, &new, page, mode, &[]);
+            let nothing_told = expected.map(|_| Ok(Answer::Event(Event::Reset)));
+            assert_eq!(run.map(|run| run.last), nothing_told);
+            // The refusals are those of a whole update too, which leaves the
+            // image.
+            let mut left = image.clone();
+            assert_eq!(
+                ds2505::update(&mut left, &[0; 8], &new, page, mode, 0),
+                expected
+            );
+            assert_eq!(left, image);
+        }
 
         assert_eq!(
             PageRead::start(page).map(|_| ()),
@@ -365,7 +456,7 @@ fn starts() {
         );
     }
     for number in [0, 1, 3, 4, 5, 8, 9, 10] {
-        assert!(seen[number] > 30, "{seen:?}");
+        assert!(seen[number] > 60, "{seen:?}");
     }
 }
 
@@ -449,18 +540,20 @@ fn joined_page_reads() {
 #[test]
 fn joined_publishers() {
     let mut g = Generator::new(308);
-    for round in 0..400 {
+    for round in 0..800 {
+        let mode = MODES[round % 2];
         let (mut image, page) = image_to_update(&mut g);
         let number = g.bytes();
         let mut chip = Chip::power_up(&number);
         let new: [u8; 32] = g.bytes();
-        let cut = if round % 4 == 0 {
+        let cut = if round % 8 < 2 {
             None
         } else {
-            Some(g.below(1223) as usize)
+            Some(g.below(all_events(mode) as u64 + 1) as usize)
         };
-        let expected = model::publisher::update(&image, &new, page, cut).unwrap();
-        let mut master = Publisher::start(&image, &new, page).unwrap();
+        let expected =
+            model::publisher::update(&image, &new, page, mode_of_model(mode), cut).unwrap();
+        let mut master = Publisher::start(&image, &new, page, mode).unwrap();
         let mut reply = g.bit();
         let mut events = 0;
         let end = loop {
@@ -472,6 +565,9 @@ fn joined_publishers() {
                 Ok(Answer::Event(event)) => {
                     reply = chip.event(event, &mut image).unwrap();
                     events += 1;
+                    if events == naming_pulse(mode) {
+                        assert_eq!(event, Event::Pulse);
+                    }
                 }
                 Ok(Answer::End(pages)) => break Some(pages),
                 Err(refusal) => panic!("{refusal}"),
@@ -484,6 +580,7 @@ fn joined_publishers() {
         };
         assert_eq!(end, expected_end);
         assert_eq!(events, expected.events);
+        assert_eq!(events, cut.unwrap_or(all_events(mode)));
         assert_eq!(image, expected.image);
     }
 }

@@ -28,7 +28,6 @@ impl Call {
     }
 }
 
-type Function = fn(&mut Call) -> u32;
 type Spoil = fn(&mut Call);
 
 struct Fault {
@@ -50,7 +49,7 @@ fn fault(code: u32, spoil: Spoil) -> Fault {
 }
 
 /// Every set of faults, each by the first of them.
-fn assert_order(name: &str, function: Function, good: &Call, faults: &[Fault]) {
+fn assert_order(name: &str, function: impl Fn(&mut Call) -> u32, good: &Call, faults: &[Fault]) {
     assert_eq!(function(&mut good.clone()), 0, "{name}: a good call");
     for set in 1u32..1 << faults.len() {
         let chosen: Vec<&Fault> = faults
@@ -81,7 +80,7 @@ fn assert_order(name: &str, function: Function, good: &Call, faults: &[Fault]) {
 /// contents of the right length are kept as far as they go.
 fn assert_lengths(
     name: &str,
-    function: Function,
+    function: impl Fn(&mut Call) -> u32,
     good: &Call,
     buffer: usize,
     code: impl Fn(usize, usize) -> u32,
@@ -169,9 +168,9 @@ fn page_state(calls: &[u8]) -> Vec<u8> {
     state
 }
 
-fn publisher_state(calls: &[u8]) -> Vec<u8> {
+fn publisher_state(start: PublisherStart, calls: &[u8]) -> Vec<u8> {
     let mut state = vec![0; 48];
-    let code = calls::publisher_start(&image(), &[0x3C; 32], PAGE as u8, &mut state, &mut [0; 16]);
+    let code = start(&image(), &[0x3C; 32], PAGE as u8, &mut state, &mut [0; 16]);
     assert_eq!(code, 0);
     for &reply in calls {
         assert_eq!(calls::publisher_call(&mut state, reply, &mut [0; 16]), 0);
@@ -191,6 +190,27 @@ fn page_replies() -> Vec<u8> {
     }
     replies
 }
+
+// ---- the functions of which there is one for each mode
+
+type Update = fn(&mut [u8], &[u8], &[u8], u8, u32, &mut [u8]) -> u32;
+type PublisherRun = fn(&[u8], &[u8], u8, &[u8], &mut [u8], &mut [u8]) -> u32;
+type PublisherStart = fn(&[u8], &[u8], u8, &mut [u8], &mut [u8]) -> u32;
+
+const UPDATES: [(&str, Update); 2] = [
+    ("update", calls::update),
+    ("update_quick", calls::update_quick),
+];
+
+const PUBLISHER_RUNS: [(&str, PublisherRun); 2] = [
+    ("publisher_run", calls::publisher_run),
+    ("publisher_run_quick", calls::publisher_run_quick),
+];
+
+const PUBLISHER_STARTS: [(&str, PublisherStart); 2] = [
+    ("publisher_start", calls::publisher_start),
+    ("publisher_start_quick", calls::publisher_start_quick),
+];
 
 // ---- the functions, on the buffers of a call
 
@@ -236,11 +256,13 @@ fn free_page(call: &mut Call) -> u32 {
     calls::free_page(image, call.small, answer)
 }
 
-fn update(call: &mut Call) -> u32 {
-    let [image, number, new, answer] = &mut call.buffers[..] else {
-        panic!()
-    };
-    calls::update(image, number, new, call.small, 1300, answer)
+fn update(function: Update) -> impl Fn(&mut Call) -> u32 {
+    move |call| {
+        let [image, number, new, answer] = &mut call.buffers[..] else {
+            panic!()
+        };
+        function(image, number, new, call.small, 1300, answer)
+    }
 }
 
 fn number_run(call: &mut Call) -> u32 {
@@ -279,18 +301,22 @@ fn page_call(call: &mut Call) -> u32 {
     calls::page_call(state, call.small, buffer, answer)
 }
 
-fn publisher_run(call: &mut Call) -> u32 {
-    let [image, new, replies, events, answer] = &mut call.buffers[..] else {
-        panic!()
-    };
-    calls::publisher_run(image, new, call.small, replies, events, answer)
+fn publisher_run(function: PublisherRun) -> impl Fn(&mut Call) -> u32 {
+    move |call| {
+        let [image, new, replies, events, answer] = &mut call.buffers[..] else {
+            panic!()
+        };
+        function(image, new, call.small, replies, events, answer)
+    }
 }
 
-fn publisher_start(call: &mut Call) -> u32 {
-    let [image, new, state, answer] = &mut call.buffers[..] else {
-        panic!()
-    };
-    calls::publisher_start(image, new, call.small, state, answer)
+fn publisher_start(function: PublisherStart) -> impl Fn(&mut Call) -> u32 {
+    move |call| {
+        let [image, new, state, answer] = &mut call.buffers[..] else {
+            panic!()
+        };
+        function(image, new, call.small, state, answer)
+    }
 }
 
 fn publisher_call(call: &mut Call) -> u32 {
@@ -476,10 +502,12 @@ fn the_image() {
         ],
         update_faults(3),
     );
-    assert_order("update", update, &good, &faults);
-    assert_lengths("update", update, &good, 0, other_lengths(1));
-    for buffer in 1..4 {
-        assert_lengths("update", update, &good, buffer, other_lengths(10));
+    for (name, function) in UPDATES {
+        assert_order(name, update(function), &good, &faults);
+        assert_lengths(name, update(function), &good, 0, other_lengths(1));
+        for buffer in 1..4 {
+            assert_lengths(name, update(function), &good, buffer, other_lengths(10));
+        }
     }
 }
 
@@ -567,16 +595,13 @@ fn the_publisher() {
         ],
         update_faults(4),
     );
-    assert_order("publisher_run", publisher_run, &good, &faults);
-    assert_lengths("publisher_run", publisher_run, &good, 0, other_lengths(1));
-    for buffer in 1..5 {
-        assert_lengths(
-            "publisher_run",
-            publisher_run,
-            &good,
-            buffer,
-            other_lengths(10),
-        );
+    for (name, function) in PUBLISHER_RUNS {
+        let run = publisher_run(function);
+        assert_order(name, &run, &good, &faults);
+        assert_lengths(name, &run, &good, 0, other_lengths(1));
+        for buffer in 1..5 {
+            assert_lengths(name, &run, &good, buffer, other_lengths(10));
+        }
     }
 
     let good = Call::new(vec![image(), mark(32), mark(48), mark(16)], PAGE as u8);
@@ -589,39 +614,55 @@ fn the_publisher() {
         ],
         update_faults(3),
     );
-    assert_order("publisher_start", publisher_start, &good, &faults);
-    assert_lengths(
-        "publisher_start",
-        publisher_start,
-        &good,
-        0,
-        other_lengths(1),
-    );
-    for buffer in 1..4 {
-        assert_lengths(
-            "publisher_start",
-            publisher_start,
-            &good,
-            buffer,
-            other_lengths(10),
-        );
+    for (name, function) in PUBLISHER_STARTS {
+        let start = publisher_start(function);
+        assert_order(name, &start, &good, &faults);
+        assert_lengths(name, &start, &good, 0, other_lengths(1));
+        for buffer in 1..4 {
+            assert_lengths(name, &start, &good, buffer, other_lengths(10));
+        }
     }
 
-    let good = Call::new(vec![publisher_state(&[1, 0]), mark(16)], 0);
-    let faults = [
-        fault(10, |call| lengthen(call, 1)),
-        fault(2, |call| call.small = 2),
-        fault(2, |call| call.buffers[0][6] = 64),
-    ];
-    assert_order("publisher_call", publisher_call, &good, &faults);
-    assert_lengths("publisher_call", publisher_call, &good, 0, other_lengths(2));
-    assert_lengths(
-        "publisher_call",
-        publisher_call,
-        &good,
-        1,
-        other_lengths(10),
-    );
+    for (name, function) in PUBLISHER_STARTS {
+        let name = format!("publisher_call after {name}");
+        let good = Call::new(vec![publisher_state(function, &[1, 0]), mark(16)], 0);
+        let faults = [
+            fault(10, |call| lengthen(call, 1)),
+            fault(2, |call| call.small = 2),
+            fault(2, |call| call.buffers[0][6] = 64),
+            fault(2, |call| call.buffers[0][9] = 2),
+        ];
+        assert_order(&name, publisher_call, &good, &faults);
+        assert_lengths(&name, publisher_call, &good, 0, other_lengths(2));
+        assert_lengths(&name, publisher_call, &good, 1, other_lengths(10));
+    }
+}
+
+/// Every page number above 63, through all functions that update.
+#[test]
+fn pages_above_63() {
+    for page in 64..=255 {
+        let image_and_new = || vec![image(), mark(32)];
+        let refused = |function: &dyn Fn(&mut Call) -> u32, buffers: Vec<Vec<u8>>| {
+            let mut call = Call::new(buffers, page);
+            let before = call.clone();
+            assert_eq!(function(&mut call), 3);
+            assert!(call == before);
+        };
+        for (_, function) in UPDATES {
+            let buffers = vec![image(), NUMBER.to_vec(), mark(32), mark(16)];
+            refused(&update(function), buffers);
+        }
+        for (_, function) in PUBLISHER_RUNS {
+            let more = [vec![1, 0, 1], mark(3), mark(16)];
+            let buffers = [image_and_new(), more.to_vec()].concat();
+            refused(&publisher_run(function), buffers);
+        }
+        for (_, function) in PUBLISHER_STARTS {
+            let buffers = [image_and_new(), vec![mark(48), mark(16)]].concat();
+            refused(&publisher_start(function), buffers);
+        }
+    }
 }
 
 #[test]
@@ -694,10 +735,13 @@ fn bytes_that_are_no_event_or_reply() {
             let before = call.clone();
             assert_eq!(page_run(&mut call), 2);
             assert!(call == before);
-            let mut call = Call::new(vec![image(), mark(32), replies, mark(7), mark(16)], 5);
-            let before = call.clone();
-            assert_eq!(publisher_run(&mut call), 2);
-            assert!(call == before);
+            for (_, function) in PUBLISHER_RUNS {
+                let buffers = vec![image(), mark(32), replies.clone(), mark(7), mark(16)];
+                let mut call = Call::new(buffers, 5);
+                let before = call.clone();
+                assert_eq!(publisher_run(function)(&mut call), 2);
+                assert!(call == before);
+            }
         }
         for calls in [&[][..], &[1], &[1, 0]] {
             let mut call = Call::new(vec![number_state(calls), mark(16)], byte);
@@ -708,10 +752,12 @@ fn bytes_that_are_no_event_or_reply() {
             let before = call.clone();
             assert_eq!(page_call(&mut call), 2);
             assert!(call == before);
-            let mut call = Call::new(vec![publisher_state(calls), mark(16)], byte);
-            let before = call.clone();
-            assert_eq!(publisher_call(&mut call), 2);
-            assert!(call == before);
+            for (_, start) in PUBLISHER_STARTS {
+                let mut call = Call::new(vec![publisher_state(start, calls), mark(16)], byte);
+                let before = call.clone();
+                assert_eq!(publisher_call(&mut call), 2);
+                assert!(call == before);
+            }
         }
     }
 }
@@ -731,10 +777,37 @@ fn what_accepted_calls_write() {
     assert_eq!(call.buffers[1][..2], [0xFF, 1]);
     assert_eq!(call.buffers[1][2..], mark(16)[2..]);
 
-    let mut call = Call::new(vec![image(), mark(32), mark(48), mark(16)], PAGE as u8);
-    assert_eq!(publisher_start(&mut call), 0);
-    assert_eq!(call.buffers[3][0], 0xFF);
-    assert_eq!(call.buffers[3][1..], mark(16)[1..]);
+    for (_, function) in PUBLISHER_STARTS {
+        let mut call = Call::new(vec![image(), mark(32), mark(48), mark(16)], PAGE as u8);
+        assert_eq!(publisher_start(function)(&mut call), 0);
+        assert_eq!(call.buffers[..2], [image(), mark(32)]);
+        assert_eq!(call.buffers[3][0], 0xFF);
+        assert_eq!(call.buffers[3][1..], mark(16)[1..]);
+    }
+
+    for (_, function) in UPDATES {
+        let buffers = vec![image(), NUMBER.to_vec(), mark(32), mark(16)];
+        let mut call = Call::new(buffers, PAGE as u8);
+        assert_eq!(update(function)(&mut call), 0);
+        assert_eq!(call.buffers[3][..3], [0xFF, 9, 1]);
+        assert_eq!(call.buffers[3][3..], mark(16)[3..]);
+    }
+
+    // The start of an update in a run: a reset, then CCh and the command.
+    let mut runs = Vec::new();
+    for (_, function) in PUBLISHER_RUNS {
+        let mut replies = vec![0; 18];
+        replies[0] = 1;
+        let buffers = vec![image(), mark(32), replies, mark(18), mark(16)];
+        let mut call = Call::new(buffers, PAGE as u8);
+        assert_eq!(publisher_run(function)(&mut call), 0);
+        assert_eq!(call.buffers[0], image());
+        assert_eq!(call.buffers[4][1..], mark(16)[1..]);
+        let bit = |place: usize| call.buffers[3][place];
+        let byte = |from: usize| (0..8).fold(0, |sum, place| sum | bit(from + place) << place);
+        runs.push([bit(0), byte(1), byte(9)]);
+    }
+    assert_eq!(runs, [[2, 0xCC, 0x55], [2, 0xCC, 0xF5]]);
 
     // A run with no reply tells the reset to come and writes nothing else.
     let mut call = Call::new(vec![vec![], vec![], mark(32), mark(16)], PAGE as u8);

@@ -27,14 +27,23 @@ pub enum Event {
     PowerLoss,
 }
 
+/// How a byte is written: each memory has two write commands.
+#[derive(Clone, Copy, Debug, PartialEq, Eq)]
+pub enum WriteMode {
+    /// 0Fh and 55h: the CRC is sent before the pulse.
+    Ordinary,
+    /// F3h and F5h, the sheet's speed-programming mode: no CRC is sent.
+    Quick,
+}
+
 /// A memory command that the chip knows.
 #[derive(Clone, Copy, Debug, PartialEq, Eq)]
 pub enum MemoryCommand {
     ReadMemory,
     ReadStatus,
     ExtendedRead,
-    WriteMemory,
-    WriteStatus,
+    WriteMemory(WriteMode),
+    WriteStatus(WriteMode),
 }
 
 impl MemoryCommand {
@@ -43,8 +52,10 @@ impl MemoryCommand {
             0xF0 => Some(MemoryCommand::ReadMemory),
             0xAA => Some(MemoryCommand::ReadStatus),
             0xA5 => Some(MemoryCommand::ExtendedRead),
-            0x0F => Some(MemoryCommand::WriteMemory),
-            0x55 => Some(MemoryCommand::WriteStatus),
+            0x0F => Some(MemoryCommand::WriteMemory(WriteMode::Ordinary)),
+            0x55 => Some(MemoryCommand::WriteStatus(WriteMode::Ordinary)),
+            0xF3 => Some(MemoryCommand::WriteMemory(WriteMode::Quick)),
+            0xF5 => Some(MemoryCommand::WriteStatus(WriteMode::Quick)),
             _ => None,
         }
     }
@@ -54,8 +65,10 @@ impl MemoryCommand {
             MemoryCommand::ReadMemory => 0xF0,
             MemoryCommand::ReadStatus => 0xAA,
             MemoryCommand::ExtendedRead => 0xA5,
-            MemoryCommand::WriteMemory => 0x0F,
-            MemoryCommand::WriteStatus => 0x55,
+            MemoryCommand::WriteMemory(WriteMode::Ordinary) => 0x0F,
+            MemoryCommand::WriteStatus(WriteMode::Ordinary) => 0x55,
+            MemoryCommand::WriteMemory(WriteMode::Quick) => 0xF3,
+            MemoryCommand::WriteStatus(WriteMode::Quick) => 0xF5,
         }
     }
 }
@@ -109,13 +122,15 @@ pub enum Stage {
         taken: Vec<bool>,
     },
     /// Waits for a byte to write. The generator already holds what goes
-    /// before the byte.
+    /// before the byte; in a quick write nothing of it is ever sent.
     WriteByte {
+        mode: WriteMode,
         target: Target,
         generator: Crc16,
         taken: Vec<bool>,
     },
     Armed {
+        mode: WriteMode,
         target: Target,
         byte: u8,
     },
@@ -145,12 +160,14 @@ pub enum After {
     PageRedirection {
         page: Page,
     },
+    /// The CRC of an ordinary write was sent.
     Armed {
         target: Target,
         byte: u8,
     },
     /// The address rises after a byte was read back.
     WriteNext {
+        mode: WriteMode,
         written: Target,
     },
 }
@@ -186,8 +203,8 @@ impl Chip {
                 true
             }
             Event::Pulse => {
-                if let Stage::Armed { target, byte } = self.stage {
-                    self.program(target, byte);
+                if let Stage::Armed { mode, target, byte } = self.stage {
+                    self.program(mode, target, byte);
                 }
                 true
             }
@@ -271,6 +288,7 @@ impl Chip {
                 self.begin_memory_command(command, high * 256 + low)
             }
             Stage::WriteByte {
+                mode,
                 target,
                 mut generator,
                 mut taken,
@@ -278,6 +296,7 @@ impl Chip {
                 taken.push(bit);
                 if taken.len() < 8 {
                     return Stage::WriteByte {
+                        mode,
                         target,
                         generator,
                         taken,
@@ -285,7 +304,10 @@ impl Chip {
                 }
                 let byte = byte_of(&taken);
                 generator.take_byte(byte);
-                send(&generator.sent(), After::Armed { target, byte })
+                match mode {
+                    WriteMode::Ordinary => send(&generator.sent(), After::Armed { target, byte }),
+                    WriteMode::Quick => Stage::Armed { mode, target, byte },
+                }
             }
             Stage::Sending { .. } => unreachable!("a sending chip takes nothing"),
         }
@@ -331,12 +353,12 @@ impl Chip {
                 }
                 None => Stage::Silent,
             },
-            MemoryCommand::WriteMemory => match DataAddress::new(number) {
-                Some(address) => first_write(&heading, Target::Data(address)),
+            MemoryCommand::WriteMemory(mode) => match DataAddress::new(number) {
+                Some(address) => first_write(mode, &heading, Target::Data(address)),
                 None => Stage::Silent,
             },
-            MemoryCommand::WriteStatus => match StatusAddress::new(number) {
-                Some(address) => first_write(&heading, Target::Status(address)),
+            MemoryCommand::WriteStatus(mode) => match StatusAddress::new(number) {
+                Some(address) => first_write(mode, &heading, Target::Status(address)),
                 None => Stage::Silent,
             },
         }
@@ -395,9 +417,14 @@ impl Chip {
                 let from = page.first_address();
                 self.read_redirection(&[], page, After::PageData { from })
             }
-            After::Armed { target, byte } => Stage::Armed { target, byte },
-            After::WriteNext { written } => match written.next() {
+            After::Armed { target, byte } => Stage::Armed {
+                mode: WriteMode::Ordinary,
+                target,
+                byte,
+            },
+            After::WriteNext { mode, written } => match written.next() {
                 Some(target) => Stage::WriteByte {
+                    mode,
                     target,
                     generator: Crc16::loaded(target.address()),
                     taken: Vec::new(),
@@ -408,7 +435,7 @@ impl Chip {
     }
 
     /// A pulse on an armed chip: the byte goes in, then the target goes out.
-    fn program(&mut self, target: Target, byte: u8) {
+    fn program(&mut self, mode: WriteMode, target: Target, byte: u8) {
         let held = match target {
             Target::Data(address) => {
                 program_data(&mut self.image, address, byte);
@@ -421,16 +448,20 @@ impl Chip {
         };
         self.stage = Stage::Sending {
             bits: VecDeque::from(bits_of_byte(held)),
-            after: After::WriteNext { written: target },
+            after: After::WriteNext {
+                mode,
+                written: target,
+            },
         };
     }
 }
 
 /// The wait for the first byte of a write, whose CRC begins with the heading.
-fn first_write(heading: &[u8], target: Target) -> Stage {
+fn first_write(mode: WriteMode, heading: &[u8], target: Target) -> Stage {
     let mut generator = Crc16::cleared();
     generator.take_bytes(heading);
     Stage::WriteByte {
+        mode,
         target,
         generator,
         taken: Vec::new(),

@@ -1,12 +1,12 @@
 //! The publisher: it supersedes a page by writing a free one and then naming
 //! it.
 //!
-//! Everything is known at the start: each event, each CRC and each byte that
-//! must be read back. So the start writes the whole plan down, and later calls
-//! only go through it.
+//! Everything is known at the start: each event, each CRC, which a quick write
+//! does without, and each byte that must be read back. So the start writes the
+//! whole plan down, and later calls only go through it.
 
 use crate::bits::{bits_of, bits_of_byte, byte_of, low_high};
-use crate::chip::{Chip, Event};
+use crate::chip::{Chip, Event, MemoryCommand, WriteMode};
 use crate::crc::{crc16_sent, crc16_sent_after_loading};
 use crate::free::free_page;
 use crate::memory::{
@@ -17,8 +17,6 @@ use crate::refusal::{Answer, Reason, Refusal};
 use crate::walk::{walk_from, Verdict};
 
 const SKIP_ROM: u8 = 0xCC;
-const WRITE_MEMORY: u8 = 0x0F;
-const WRITE_STATUS: u8 = 0x55;
 
 /// The two pages of an update that went through.
 #[derive(Clone, Copy, Debug, PartialEq, Eq)]
@@ -94,19 +92,27 @@ fn add_read_slots(plan: &mut Vec<Step>, slots: usize, check: Check) {
 }
 
 /// One write: reset, Skip ROM, command, address, then each byte with its CRC,
-/// its pulse and its reading back.
-fn add_write(plan: &mut Vec<Step>, command: u8, address: u16, bytes: &[ByteToWrite]) {
+/// its pulse and its reading back. A quick write has no CRC.
+fn add_write(
+    plan: &mut Vec<Step>,
+    mode: WriteMode,
+    command: u8,
+    address: u16,
+    bytes: &[ByteToWrite],
+) {
     let [low, high] = low_high(address);
     add_reset(plan);
     add_sent_bytes(plan, &[SKIP_ROM, command, low, high]);
     for (offset, byte) in bytes.iter().enumerate() {
-        let crc = if offset == 0 {
-            crc16_sent(&[command, low, high, byte.sent])
-        } else {
-            crc16_sent_after_loading(address + offset as u16, byte.sent)
-        };
         add_sent_bytes(plan, &[byte.sent]);
-        add_read_slots(plan, 16, Check::Crc(bits_of(&crc)));
+        if mode == WriteMode::Ordinary {
+            let crc = if offset == 0 {
+                crc16_sent(&[command, low, high, byte.sent])
+            } else {
+                crc16_sent_after_loading(address + offset as u16, byte.sent)
+            };
+            add_read_slots(plan, 16, Check::Crc(bits_of(&crc)));
+        }
         plan.push(Step {
             event: Event::Pulse,
             check: Check::Nothing,
@@ -116,8 +122,10 @@ fn add_write(plan: &mut Vec<Step>, command: u8, address: u16, bytes: &[ByteToWri
     }
 }
 
-fn make_plan(image: &[u8], new_bytes: &[u8], l: Page, t: Page) -> Vec<Step> {
+fn make_plan(image: &[u8], new_bytes: &[u8], l: Page, t: Page, mode: WriteMode) -> Vec<Step> {
     let mut plan = Vec::new();
+    let write_memory = MemoryCommand::WriteMemory(mode).byte();
+    let write_status = MemoryCommand::WriteStatus(mode).byte();
 
     // The bits of the whole bitmap as sent, 0 for T only; one byte of it goes
     // out.
@@ -129,7 +137,8 @@ fn make_plan(image: &[u8], new_bytes: &[u8], l: Page, t: Page) -> Vec<Step> {
     let held = StatusAddress::new(mark_address).expect("the bitmap is in status");
     add_write(
         &mut plan,
-        WRITE_STATUS,
+        mode,
+        write_status,
         mark_address,
         &[ByteToWrite {
             sent: mark,
@@ -148,11 +157,12 @@ fn make_plan(image: &[u8], new_bytes: &[u8], l: Page, t: Page) -> Vec<Step> {
             ),
         })
         .collect();
-    add_write(&mut plan, WRITE_MEMORY, first, &bytes);
+    add_write(&mut plan, mode, write_memory, first, &bytes);
 
     add_write(
         &mut plan,
-        WRITE_STATUS,
+        mode,
+        write_status,
         l.redirection_address().number(),
         &[ByteToWrite {
             sent: RedirectionByte::naming(t).0,
@@ -165,8 +175,13 @@ fn make_plan(image: &[u8], new_bytes: &[u8], l: Page, t: Page) -> Vec<Step> {
 }
 
 impl Publisher {
-    /// Refusals 1, 10, 3, 4, 5, 9 and 8, in this order.
-    pub fn start(image: &[u8], new_bytes: &[u8], page: u8) -> Result<Publisher, Refusal> {
+    /// Refusals 1, 10, 3, 4, 5, 9 and 8, in this order, in either mode.
+    pub fn start(
+        image: &[u8],
+        new_bytes: &[u8],
+        page: u8,
+        mode: WriteMode,
+    ) -> Result<Publisher, Refusal> {
         check_image(image)?;
         if new_bytes.len() != PAGE_LENGTH {
             return Err(Refusal::without_state(Reason::BufferLength));
@@ -190,7 +205,7 @@ impl Publisher {
                 l: l.number(),
                 t: t.number(),
             },
-            plan: make_plan(image, new_bytes, l, t),
+            plan: make_plan(image, new_bytes, l, t, mode),
             sent: Vec::new(),
             replies: Vec::new(),
             end: None,
@@ -272,9 +287,10 @@ pub fn update(
     image: &[u8],
     new_bytes: &[u8],
     page: u8,
+    mode: WriteMode,
     cut_after: Option<usize>,
 ) -> Result<Run, Refusal> {
-    let mut publisher = Publisher::start(image, new_bytes, page)?;
+    let mut publisher = Publisher::start(image, new_bytes, page, mode)?;
     let mut chip = Chip::power_up([0; 8], image.to_vec())?;
     let mut reply = true;
     let mut events = 0;

@@ -1,5 +1,6 @@
 //! Stored sheets: the samples that are shipped, and many more to be listed.
 
+use crate::chip::WriteMode;
 use crate::crc::crc8;
 use crate::memory::{
     blank_image, StatusAddress, StatusMeaning, DATA_LENGTH, REDIRECTION, USED_BITMAP,
@@ -50,7 +51,8 @@ fn three_years() -> Vec<u8> {
     }
     for year in 1..=3 {
         for band in 1..=4 {
-            image = publisher::update(&image, &variations(band, year), band as u8, None)
+            let new_bytes = variations(band, year);
+            image = publisher::update(&image, &new_bytes, band as u8, WriteMode::Ordinary, None)
                 .expect("there is a free page")
                 .image;
         }

@@ -15,7 +15,7 @@ mod session;
 mod walks;
 mod world;
 
-use crate::chip::Event;
+use crate::chip::{Event, WriteMode};
 use crate::memory::{check_image, check_page, page_bytes, DATA_LENGTH, PAGE_LENGTH, REDIRECTION};
 use crate::random::{any_image, shifted, used_image, Generator};
 use crate::refusal::{Reason, Refusal};
@@ -30,6 +30,12 @@ const PAGES: u64 = 800;
 const PAGES_ALONE: u64 = 300;
 const UPDATES: u64 = 800;
 const UPDATES_ALONE: u64 = 300;
+const QUICK_UPDATES: u64 = 400;
+const QUICK_UPDATES_ALONE: u64 = 150;
+
+/// The seeds of the updates in each mode.
+const PUBLISH_SEED: u64 = 0x7075_626C_6973_6865;
+const QUICK_SEED: u64 = 0x7175_6963_6B20_7570;
 
 /// The digest of a case: each byte told goes in, then the generator's three
 /// shifts.
@@ -164,9 +170,10 @@ pub fn text() -> String {
         rows::all(),
         notes::all(),
         walks::all(WALKS),
-        cut::all(),
+        cut::ordinary(),
         lengths::images(&mut room),
         lengths::buffers(&mut room),
+        cut::quick(),
     ]
     .concat()
 }
@@ -185,8 +192,22 @@ pub fn masters_text() -> String {
         page::all("page", PAGES, false),
         page::all("page-alone", PAGES_ALONE, true),
         lengths::reads(),
-        publish::all("publish", UPDATES, false),
-        publish::all("publish-alone", UPDATES_ALONE, true),
+        publish::all("publish", PUBLISH_SEED, UPDATES, WriteMode::Ordinary, false),
+        publish::all(
+            "publish-alone",
+            PUBLISH_SEED,
+            UPDATES_ALONE,
+            WriteMode::Ordinary,
+            true,
+        ),
+        publish::all("quick", QUICK_SEED, QUICK_UPDATES, WriteMode::Quick, false),
+        publish::all(
+            "quick-alone",
+            QUICK_SEED,
+            QUICK_UPDATES_ALONE,
+            WriteMode::Quick,
+            true,
+        ),
     ]
     .concat()
 }

@@ -13,7 +13,31 @@ use ds2505_model::memory::blank_image;
 use ds2505_model::random::{any_image, used_image, Generator};
 
 const ROM_COMMANDS: [u8; 4] = [0x33, 0x55, 0xF0, 0xCC];
-const MEMORY_COMMANDS: [u8; 5] = [0xF0, 0xAA, 0xA5, 0x0F, 0x55];
+const MEMORY_COMMANDS: [u8; 7] = [0xF0, 0xAA, 0xA5, 0x0F, 0x55, 0xF3, 0xF5];
+
+/// The write commands for each memory, the ordinary one first.
+const WRITE_MEMORY: [u8; 2] = [0x0F, 0xF3];
+const WRITE_STATUS: [u8; 2] = [0x55, 0xF5];
+
+/// How many slots of CRC there are between a byte to write and its pulse.
+fn crc_slots(command: u8) -> usize {
+    match command {
+        0x0F | 0x55 => 16,
+        0xF3 | 0xF5 => 0,
+        _ => panic!("not a write command"),
+    }
+}
+
+/// Reset, Skip ROM, the write command, a start address and a byte, then the
+/// slots of the CRC: all that arms a chip.
+fn events_to_arm(command: u8, start: u16, byte: u8) -> Vec<Event> {
+    let [low, high] = start.to_le_bytes();
+    let sent = bits_of(&[0xCC, command, low, high, byte]);
+    let mut events = vec![Event::Reset];
+    events.extend(sent.into_iter().map(Event::Slot));
+    events.extend(vec![Event::Slot(true); crc_slots(command)]);
+    events
+}
 
 /// Status bytes as the chip must read them.
 fn visible_status(image: &[u8]) -> Vec<u8> {
@@ -48,27 +72,24 @@ fn silent_until_reset() {
 fn power_loss_at_any_moment() {
     let mut image = blank_image();
     image[32 * 3..32 * 4].fill(0x96);
-    let mut events = vec![Event::Reset];
-    events.extend(
-        bits_of(&[0xCC, 0x0F, 0x60, 0x00, 0x21])
-            .into_iter()
-            .map(Event::Slot),
-    );
-    events.extend([Event::Slot(true); 16]);
-    events.push(Event::Pulse);
-    events.extend([Event::Slot(true); 8]);
-    for count in 0..=events.len() {
-        let mut chip = chip_with(image.clone());
-        for &event in &events[..count] {
-            chip.event(event);
+    for (command, armed_at) in [(0x0F, 57), (0xF3, 41)] {
+        let mut events = events_to_arm(command, 0x60, 0x21);
+        assert_eq!(events.len(), armed_at);
+        events.push(Event::Pulse);
+        events.extend([Event::Slot(true); 8]);
+        for count in 0..=events.len() {
+            let mut chip = chip_with(image.clone());
+            for &event in &events[..count] {
+                chip.event(event);
+            }
+            let before = chip.image.clone();
+            assert!(chip.event(Event::PowerLoss));
+            assert_eq!(chip.image, before);
+            assert_silent(&mut chip);
+            assert!(!chip.event(Event::Reset));
+            let pulsed = count > armed_at;
+            assert_eq!(before[0x60], if pulsed { 0x96 & 0x21 } else { 0x96 });
         }
-        let before = chip.image.clone();
-        assert!(chip.event(Event::PowerLoss));
-        assert_eq!(chip.image, before);
-        assert_silent(&mut chip);
-        assert!(!chip.event(Event::Reset));
-        let pulsed = count > 57;
-        assert_eq!(before[0x60], if pulsed { 0x96 & 0x21 } else { 0x96 });
     }
 }
 
@@ -170,7 +191,7 @@ fn unknown_commands_silence() {
 fn start_addresses_keep_eleven_bits() {
     for command in MEMORY_COMMANDS {
         let last: u16 = match command {
-            0xAA | 0x55 => 0x13F,
+            0xAA | 0x55 | 0xF5 => 0x13F,
             _ => 0x7FF,
         };
         for address in [
@@ -338,20 +359,22 @@ fn extended_read() {
     }
 }
 
-/// Writes bytes from a start address, checking CRCs, and gives what was read
-/// back of each.
+/// Writes bytes from a start address, checking CRCs where there are any, and
+/// gives what was read back of each.
 fn write(chip: &mut Chip, command: u8, start: u16, bytes: &[u8]) -> Vec<u8> {
     let [low, high] = start.to_le_bytes();
     begin(chip, &[command, low, high]);
     let mut held = Vec::new();
     for (offset, &byte) in bytes.iter().enumerate() {
         send(chip, &[byte]);
-        let crc = if offset == 0 {
-            crc16_sent(&[command, low, high, byte])
-        } else {
-            crc16_sent_after_loading(start + offset as u16, byte)
-        };
-        assert_eq!(read(chip, 2), crc);
+        if crc_slots(command) > 0 {
+            let crc = if offset == 0 {
+                crc16_sent(&[command, low, high, byte])
+            } else {
+                crc16_sent_after_loading(start + offset as u16, byte)
+            };
+            assert_eq!(read(chip, 2), crc);
+        }
         assert!(chip.event(Event::Pulse));
         held.push(read_byte(chip));
     }
@@ -365,60 +388,100 @@ fn write_is_and() {
     image[0x41] = 0x5A;
     image[0x60] = 0x5A;
     clear_bit(&mut image, 0x000, 3);
-    let mut chip = chip_with(image.clone());
-    assert_eq!(
-        write(&mut chip, 0x0F, 0x40, &[0x0F, 0xFF, 0x3C]),
-        [0x00, 0x5A, 0x3C]
-    );
-    assert_eq!(write(&mut chip, 0x0F, 0x60, &[0x0F, 0x0F]), [0x5A, 0xFF]);
-    image[0x40] = 0x00;
-    image[0x42] = 0x3C;
-    assert_eq!(chip.image, image);
+    let mut expected = image.clone();
+    expected[0x40] = 0x00;
+    expected[0x42] = 0x3C;
+    for command in WRITE_MEMORY {
+        let mut chip = chip_with(image.clone());
+        assert_eq!(
+            write(&mut chip, command, 0x40, &[0x0F, 0xFF, 0x3C]),
+            [0x00, 0x5A, 0x3C]
+        );
+        assert_eq!(write(&mut chip, command, 0x60, &[0x0F, 0x0F]), [0x5A, 0xFF]);
+        assert_eq!(chip.image, expected);
+    }
+}
+
+/// Bits cleared by either mode stay cleared for the other.
+#[test]
+fn one_mode_over_the_other() {
+    for [first, second] in [[0x0F, 0xF3], [0xF3, 0x0F]] {
+        let mut chip = blank_chip();
+        assert_eq!(write(&mut chip, first, 0x40, &[0x5A, 0xC3]), [0x5A, 0xC3]);
+        assert_eq!(write(&mut chip, second, 0x40, &[0x0F, 0x99]), [0x0A, 0x81]);
+        assert_eq!(chip.image[0x40..0x42], [0x0A, 0x81]);
+    }
 }
 
 #[test]
 fn write_runs_over_a_protected_page() {
     let mut image = blank_image();
     clear_bit(&mut image, 0x000, 5);
-    let mut chip = chip_with(image);
-    let held = write(&mut chip, 0x0F, 32 * 5 - 1, &[0x00; 34]);
-    assert_eq!(held[0], 0x00);
-    assert_eq!(held[1..33], [0xFF; 32]);
-    assert_eq!(held[33], 0x00);
+    for command in WRITE_MEMORY {
+        let mut chip = chip_with(image.clone());
+        let held = write(&mut chip, command, 32 * 5 - 1, &[0x00; 34]);
+        assert_eq!(held[0], 0x00);
+        assert_eq!(held[1..33], [0xFF; 32]);
+        assert_eq!(held[33], 0x00);
+    }
+}
+
+#[test]
+fn write_runs_over_a_protected_redirection_byte() {
+    let mut image = blank_image();
+    image[redirection(10)] = 0xF7;
+    clear_bit(&mut image, 0x020, 10);
+    let mut expected = image.clone();
+    expected[redirection(9)] = 0x12;
+    expected[redirection(11)] = 0x56;
+    for command in WRITE_STATUS {
+        let mut chip = chip_with(image.clone());
+        let held = write(&mut chip, command, 0x109, &[0x12, 0x34, 0x56]);
+        assert_eq!(held, [0x12, 0xF7, 0x56]);
+        assert_eq!(chip.image, expected);
+    }
 }
 
 #[test]
 fn write_does_not_follow_redirection() {
     let mut image = blank_image();
     image[redirection(1)] = 0xFD;
-    let mut chip = chip_with(image.clone());
-    assert_eq!(write(&mut chip, 0x0F, 0x20, &[0x12]), [0x12]);
-    image[0x20] = 0x12;
-    assert_eq!(chip.image, image);
+    let mut expected = image.clone();
+    expected[0x20] = 0x12;
+    for command in WRITE_MEMORY {
+        let mut chip = chip_with(image.clone());
+        assert_eq!(write(&mut chip, command, 0x20, &[0x12]), [0x12]);
+        assert_eq!(chip.image, expected);
+    }
 }
 
 #[test]
 fn write_to_the_last_addresses() {
-    let mut chip = blank_chip();
-    assert_eq!(write(&mut chip, 0x0F, 0x7FE, &[0x12, 0x34]), [0x12, 0x34]);
-    assert_eq!(chip.stage, Stage::Silent);
-    assert_silent(&mut chip);
-    assert_eq!(chip.image[0x7FE..0x800], [0x12, 0x34]);
-    assert_eq!(write(&mut chip, 0x55, 0x13E, &[0x56, 0x78]), [0x56, 0x78]);
-    assert_eq!(chip.stage, Stage::Silent);
-    assert_silent(&mut chip);
-    assert_eq!(chip.image[status(0x13E)..], [0x56, 0x78]);
-    assert_eq!(chip.image[..0x7FE], blank_image()[..0x7FE]);
+    for [memory, status_memory] in [[0x0F, 0x55], [0xF3, 0xF5]] {
+        let mut chip = blank_chip();
+        assert_eq!(write(&mut chip, memory, 0x7FE, &[0x12, 0x34]), [0x12, 0x34]);
+        assert_eq!(chip.stage, Stage::Silent);
+        assert_silent(&mut chip);
+        assert_eq!(chip.image[0x7FE..0x800], [0x12, 0x34]);
+        assert_eq!(
+            write(&mut chip, status_memory, 0x13E, &[0x56, 0x78]),
+            [0x56, 0x78]
+        );
+        assert_eq!(chip.stage, Stage::Silent);
+        assert_silent(&mut chip);
+        assert_eq!(chip.image[status(0x13E)..], [0x56, 0x78]);
+        assert_eq!(chip.image[..0x7FE], blank_image()[..0x7FE]);
+    }
 }
 
 #[test]
 fn write_all_of_status() {
     let mut generator = Generator::new(14);
-    for _ in 0..6 {
+    for round in 0..12 {
         let image = any_image(&mut generator);
         let bytes: Vec<u8> = (0..320).map(|_| generator.byte()).collect();
         let mut chip = chip_with(image.clone());
-        let held = write(&mut chip, 0x55, 0x000, &bytes);
+        let held = write(&mut chip, WRITE_STATUS[round % 2], 0x000, &bytes);
         let mut expected = image.clone();
         for address in 0..320 {
             let allowed = match address {
@@ -452,52 +515,142 @@ fn the_next_address_is_loaded_not_shifted() {
 
 #[test]
 fn slot_when_armed_silences() {
-    for bit in [false, true] {
-        let mut chip = blank_chip();
-        begin(&mut chip, &[0x0F, 0x00, 0x00, 0x00]);
-        read(&mut chip, 2);
-        assert!(matches!(chip.stage, Stage::Armed { .. }));
-        assert_eq!(chip.event(Event::Slot(bit)), bit);
-        assert!(chip.event(Event::Pulse));
-        assert_eq!(chip.image, blank_image());
-        assert_silent(&mut chip);
+    for command in [WRITE_MEMORY, WRITE_STATUS].concat() {
+        for bit in [false, true] {
+            let mut chip = blank_chip();
+            for event in events_to_arm(command, 0x000, 0x00) {
+                chip.event(event);
+            }
+            assert!(matches!(chip.stage, Stage::Armed { .. }));
+            assert_eq!(chip.event(Event::Slot(bit)), bit);
+            assert_eq!(chip.stage, Stage::Silent);
+            assert!(chip.event(Event::Pulse));
+            assert_eq!(chip.image, blank_image());
+            assert_silent(&mut chip);
+        }
     }
 }
 
 /// Pulses before each event change nothing but for the one on the armed chip.
 #[test]
 fn pulses_when_not_armed() {
-    let mut events = vec![Event::Reset];
-    events.extend(
-        bits_of(&[0xCC, 0x0F, 0x00, 0x00, 0xA0])
-            .into_iter()
-            .map(Event::Slot),
-    );
-    events.extend([Event::Slot(true); 16]);
-    let armed_at = events.len();
-    for count in 0..armed_at {
+    for command in WRITE_MEMORY {
+        let events = events_to_arm(command, 0x000, 0xA0);
+        for count in 0..events.len() {
+            let mut chip = blank_chip();
+            let mut other = blank_chip();
+            for &event in &events[..count] {
+                chip.event(event);
+                other.event(event);
+            }
+            for _ in 0..3 {
+                assert!(chip.event(Event::Pulse));
+                assert_eq!(chip, other);
+            }
+        }
+        // The second of two pulses falls into the reading back.
         let mut chip = blank_chip();
-        let mut other = blank_chip();
-        for &event in &events[..count] {
+        for &event in &events {
             chip.event(event);
-            other.event(event);
         }
-        for _ in 0..3 {
+        chip.event(Event::Pulse);
+        chip.event(Event::Pulse);
+        assert_eq!(read_byte(&mut chip), 0xA0);
+        send(&mut chip, &[0x0B]);
+        if crc_slots(command) > 0 {
+            assert_eq!(read(&mut chip, 2), crc16_sent_after_loading(1, 0x0B));
+        }
+        assert!(matches!(chip.stage, Stage::Armed { .. }));
+        assert_eq!(chip.image[..2], [0xA0, 0xFF]);
+    }
+}
+
+/// A whole session of each quick command: the chip is armed after the eighth
+/// bit of a byte and at no other moment, for the first byte and for later
+/// ones.
+#[test]
+fn quick_write_is_armed_after_the_eighth_bit() {
+    let bytes = [0x21, 0xF0, 0x5A];
+    for (command, start, place) in [(0xF3, 0x25, 0x25), (0xF5, 0x105, status(0x105))] {
+        let mut chip = blank_chip();
+        let mut expected = blank_image();
+        begin(&mut chip, &[command]);
+        send(&mut chip, &u16::to_le_bytes(start));
+        for (offset, &byte) in bytes.iter().enumerate() {
+            for bit in bits_of_byte(byte) {
+                // A pulse before the eighth bit changes nothing.
+                let before = chip.clone();
+                assert!(chip.event(Event::Pulse));
+                assert_eq!(chip, before);
+                assert_eq!(chip.event(Event::Slot(bit)), bit);
+            }
+            assert!(matches!(chip.stage, Stage::Armed { .. }));
+            // A ninth slot in place of the pulse silences.
+            for bit in [false, true] {
+                let mut other = chip.clone();
+                assert_eq!(other.event(Event::Slot(bit)), bit);
+                assert_silent(&mut other);
+            }
+            assert_eq!(chip.image, expected);
             assert!(chip.event(Event::Pulse));
-            assert_eq!(chip, other);
+            expected[place + offset] = byte;
+            assert_eq!(chip.image, expected);
+            assert_eq!(read_byte(&mut chip), byte);
+        }
+        assert!(!chip.event(Event::Reset));
+        assert_eq!(chip.image, expected);
+    }
+}
+
+/// Nothing on the bus tells of dropped bits before the byte read back, and
+/// this tells only what the address without them holds.
+#[test]
+fn quick_write_does_not_tell_of_dropped_bits() {
+    let mut image = blank_image();
+    image[0x25] = 0x5A;
+    for high in (0x08..=0xF8).step_by(8) {
+        for (command, low, place) in [(0xF3, 0x25, 0x25), (0xF5, 0x40, status(0x40))] {
+            let mut chip = chip_with(image.clone());
+            let mut kept = chip_with(image.clone());
+            begin(&mut chip, &[command, low, high]);
+            begin(&mut kept, &[command, low, 0x00]);
+            assert_eq!(chip, kept);
+            let expected = image[place] & 0x0F;
+            send(&mut chip, &[0x0F]);
+            assert!(chip.event(Event::Pulse));
+            assert_eq!(read_byte(&mut chip), expected);
+            let differing: Vec<usize> = (0..2368)
+                .filter(|&at| chip.image[at] != image[at])
+                .collect();
+            assert_eq!(differing, [place]);
+            assert_eq!(chip.image[place], expected);
         }
     }
-    // The second of two pulses falls into the reading back.
-    let mut chip = blank_chip();
-    for &event in &events {
-        chip.event(event);
+}
+
+/// A quick write without the sixteen slots of CRC does what an ordinary one
+/// does with them.
+#[test]
+fn quick_writes_equal_ordinary_writes() {
+    let mut generator = Generator::new(101);
+    for _ in 0..400 {
+        let image = used_image(&mut generator);
+        let ([ordinary, quick], length) = if generator.bit() {
+            (WRITE_MEMORY, 0x800)
+        } else {
+            (WRITE_STATUS, 0x140)
+        };
+        let start = generator.below(length);
+        let many = 1 + generator.below(40).min(length - 1 - start);
+        let bytes: Vec<u8> = (0..many).map(|_| generator.byte()).collect();
+        let after = |command| {
+            let mut chip = chip_with(image.clone());
+            let held = write(&mut chip, command, start as u16, &bytes);
+            (chip.image, held, chip.stage == Stage::Silent)
+        };
+        assert_eq!(after(quick), after(ordinary));
+        assert_eq!(after(quick).2, start + many == length);
     }
-    chip.event(Event::Pulse);
-    chip.event(Event::Pulse);
-    assert_eq!(read_byte(&mut chip), 0xA0);
-    send(&mut chip, &[0x0B]);
-    assert_eq!(read(&mut chip, 2), crc16_sent_after_loading(1, 0x0B));
-    assert_eq!(chip.image[..2], [0xA0, 0xFF]);
 }
 
 #[test]
@@ -517,18 +670,23 @@ fn sending_goes_on_whatever_the_master_does() {
         }
     }
     // CRC and reading back of a write as well.
-    let mut chip = blank_chip();
-    begin(&mut chip, &[0x0F, 0x00, 0x00, 0xA5]);
-    for _ in 0..16 {
-        assert!(!chip.event(Event::Slot(false)));
+    for command in WRITE_MEMORY {
+        let mut chip = blank_chip();
+        begin(&mut chip, &[command, 0x00, 0x00, 0xA5]);
+        for _ in 0..crc_slots(command) {
+            assert!(!chip.event(Event::Slot(false)));
+        }
+        chip.event(Event::Pulse);
+        for _ in 0..8 {
+            assert!(!chip.event(Event::Slot(false)));
+        }
+        send_bits(&mut chip, &bits_of_byte(0x0F));
+        if crc_slots(command) > 0 {
+            assert_eq!(read(&mut chip, 2), crc16_sent_after_loading(1, 0x0F));
+        }
+        assert!(matches!(chip.stage, Stage::Armed { .. }));
+        assert_eq!(chip.image[0], 0xA5);
     }
-    chip.event(Event::Pulse);
-    for _ in 0..8 {
-        assert!(!chip.event(Event::Slot(false)));
-    }
-    send_bits(&mut chip, &bits_of_byte(0x0F));
-    assert_eq!(read(&mut chip, 2), crc16_sent_after_loading(1, 0x0F));
-    assert_eq!(chip.image[0], 0xA5);
 }
 
 /// Sessions made of likely and unlikely pieces: no event makes a bit 1, gaps
@@ -549,11 +707,14 @@ fn random_events() {
             if generator.once_in(6) {
                 bytes[0] = generator.byte();
             }
-            bytes.push(MEMORY_COMMANDS[generator.below(5) as usize]);
+            let command = MEMORY_COMMANDS[generator.below(7) as usize];
+            bytes.push(command);
             bytes.extend((generator.below(0x900) as u16).to_le_bytes());
             bytes.push(generator.byte());
             events.extend(bits_of(&bytes).into_iter().map(Event::Slot));
-            events.extend([Event::Slot(true); 16]);
+            if ![0xF3, 0xF5].contains(&command) {
+                events.extend([Event::Slot(true); 16]);
+            }
             events.push(Event::Pulse);
             events.extend([Event::Slot(true); 8]);
             for _ in 0..generator.below(60) {

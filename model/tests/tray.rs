@@ -3,8 +3,11 @@
 mod common;
 
 use common::{
-    assert_silent, begin, chip_with, clear_bit, read, read_byte, redirection, send, NUMBER,
+    assert_silent, begin, chip_with, clear_bit, read, read_byte, redirection, send, send_bits,
+    NUMBER,
 };
+use ds2505_model::bits::bits_of;
+use ds2505_model::chip::WriteMode::{Ordinary, Quick};
 use ds2505_model::chip::{Chip, Event};
 use ds2505_model::crc::{crc16_sent, crc8};
 use ds2505_model::memory::{blank_image, page_bytes, Page};
@@ -56,13 +59,56 @@ fn writing_over() {
         if protected {
             clear_bit(&mut image, 0x000, 1);
         }
-        let mut chip = chip_with(image);
+        let mut chip = chip_with(image.clone());
         begin(&mut chip, &[0x0F, 0x25, 0x00]);
         send(&mut chip, &[sent]);
         assert_eq!(read(&mut chip, 2), crc16_sent(&[0x0F, 0x25, 0x00, sent]));
         chip.event(Event::Pulse);
         assert_eq!(read_byte(&mut chip), left);
         assert_eq!(chip.image[0x25], left);
+        // A quick write, also with a bit of the start address that is dropped.
+        for high in [0x00, 0x08] {
+            let mut chip = chip_with(image.clone());
+            begin(&mut chip, &[0xF3, 0x25, high, sent]);
+            chip.event(Event::Pulse);
+            assert_eq!(read_byte(&mut chip), left);
+            assert_eq!(chip.image[0x25], left);
+        }
+    }
+}
+
+#[test]
+fn quick_starts_at_the_end_and_beyond() {
+    let mut image = blank_image();
+    image[0x000] = 0x3C;
+    image[0x7FF] = 0x5A;
+    for (heading, back) in [
+        ([0xF3, 0xFF, 0x07], [0x0A, 0xFF]),
+        ([0xF3, 0x00, 0x08], [0x0C, 0x33]),
+        ([0xF5, 0x3F, 0x01], [0x0F, 0xFF]),
+        ([0xF5, 0x40, 0x01], [0xFF, 0xFF]),
+        ([0xF5, 0x3F, 0x09], [0x0F, 0xFF]),
+    ] {
+        let mut chip = chip_with(image.clone());
+        begin(&mut chip, &heading);
+        for (sent, back) in [0x0F, 0x33].into_iter().zip(back) {
+            send(&mut chip, &[sent]);
+            chip.event(Event::Pulse);
+            assert_eq!(read_byte(&mut chip), back);
+        }
+    }
+}
+
+#[test]
+fn quick_pulses() {
+    for (slots, held) in [(7, 0x5A), (8, 0x0A), (9, 0x5A)] {
+        let mut image = blank_image();
+        image[0x25] = 0x5A;
+        let mut chip = chip_with(image);
+        begin(&mut chip, &[0xF3, 0x25, 0x00]);
+        send_bits(&mut chip, &bits_of(&[0x0F, 0xFF])[..slots]);
+        chip.event(Event::Pulse);
+        assert_eq!(chip.image[0x25], held);
     }
 }
 
@@ -101,8 +147,14 @@ fn eight_zero_bytes_as_number() {
 fn cuts() {
     let mut image = blank_image();
     image[..32].fill(0x11);
-    for (cut, page, bytes) in [(1212, 0, [0x11; 32]), (1213, 1, [0x22; 32])] {
-        let left = update(&image, &[0x22; 32], 0, Some(cut)).unwrap().image;
+    for (mode, cut, page, bytes) in [
+        (Ordinary, 1212, 0, [0x11; 32]),
+        (Ordinary, 1213, 1, [0x22; 32]),
+        (Quick, 668, 0, [0x11; 32]),
+        (Quick, 669, 1, [0x22; 32]),
+    ] {
+        let run = update(&image, &[0x22; 32], 0, mode, Some(cut));
+        let left = run.unwrap().image;
         assert_eq!(walk(&left, 0), Ok(final_at(page, page)));
         assert_eq!(page_bytes(&left, Page::new(page).unwrap()), bytes);
         let reading = read_page(&mut chip_with(left), 0).unwrap();
@@ -114,15 +166,18 @@ fn cuts() {
 #[test]
 fn pages_of_blank_images() {
     let new = [0; 32];
-    for (page, l, t) in [(0, 0, 1), (1, 1, 2)] {
-        let run = update(&blank_image(), &new, page, None).unwrap();
-        assert_eq!(run.outcome, Outcome::Published(Published { l, t }));
-    }
     let mut image = blank_image();
     for page in 2..64 {
         clear_bit(&mut image, 0x040, page);
     }
-    assert_eq!(Publisher::start(&image, &new, 1).unwrap_err().number(), 8);
+    for mode in [Ordinary, Quick] {
+        for (page, l, t) in [(0, 0, 1), (1, 1, 2)] {
+            let run = update(&blank_image(), &new, page, mode, None).unwrap();
+            assert_eq!(run.outcome, Outcome::Published(Published { l, t }));
+        }
+        let refusal = Publisher::start(&image, &new, 1, mode).unwrap_err();
+        assert_eq!(refusal.number(), 8);
+    }
 }
 
 #[test]
@@ -136,13 +191,20 @@ fn counts_of_events() {
     let long = chain_image(&(0..64).collect::<Vec<u8>>());
     assert_eq!(read_page(&mut chip_with(long), 0).unwrap().events, 3921);
 
-    let publisher = Publisher::start(&blank_image(), &[0; 32], 0).unwrap();
-    let plan = publisher.planned_events();
-    assert_eq!(plan.len(), 66 + 1089 + 66 + 1);
-    assert_eq!(plan.len(), 1222);
-    assert_eq!(plan[1213 - 1], Event::Pulse);
-    let resets: Vec<usize> = (0..1222).filter(|&at| plan[at] == Event::Reset).collect();
-    assert_eq!(resets, [0, 66, 66 + 1089, 66 + 1089 + 66]);
-    let pulses = plan.iter().filter(|&&event| event == Event::Pulse).count();
-    assert_eq!(pulses, 34);
+    for (mode, lengths, all, visible) in [
+        (Ordinary, [66, 1089, 66], 1222, 1213),
+        (Quick, [50, 577, 50], 678, 669),
+    ] {
+        let publisher = Publisher::start(&blank_image(), &[0; 32], 0, mode).unwrap();
+        let plan = publisher.planned_events();
+        assert_eq!(plan.len(), all);
+        let [a, b, c] = lengths;
+        let resets: Vec<usize> = (0..all).filter(|&at| plan[at] == Event::Reset).collect();
+        assert_eq!(resets, [0, a, a + b, a + b + c]);
+        assert_eq!(all, a + b + c + 1);
+        let pulses: Vec<usize> = (0..all).filter(|&at| plan[at] == Event::Pulse).collect();
+        assert_eq!(pulses.len(), 34);
+        // Counted from 1.
+        assert_eq!(pulses[33] + 1, visible);
+    }
 }

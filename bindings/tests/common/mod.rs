@@ -2,7 +2,7 @@
 //! sessions for a chip, and replies for a master.
 #![allow(dead_code)]
 
-use ds2505::{Answer, Event, Final, Published, Refusal, Verdict};
+use ds2505::{Answer, Event, Final, Published, Refusal, Verdict, WriteMode};
 use ds2505_model as model;
 use ds2505_model::bits::{bits_of, bits_of_byte};
 use ds2505_model::crc::crc8;
@@ -26,6 +26,13 @@ pub fn from_model(event: model::chip::Event) -> Event {
         model::chip::Event::Reset => Event::Reset,
         model::chip::Event::Pulse => Event::Pulse,
         model::chip::Event::PowerLoss => Event::PowerLoss,
+    }
+}
+
+pub fn mode_of_model(mode: WriteMode) -> model::chip::WriteMode {
+    match mode {
+        WriteMode::Ordinary => model::chip::WriteMode::Ordinary,
+        WriteMode::Quick => model::chip::WriteMode::Quick,
     }
 }
 
@@ -74,6 +81,51 @@ pub fn told<T, U>(
     }
 }
 
+// ---- the two modes
+
+pub const MODES: [WriteMode; 2] = [WriteMode::Ordinary, WriteMode::Quick];
+
+/// How many events a whole update has.
+pub fn all_events(mode: WriteMode) -> usize {
+    match mode {
+        WriteMode::Ordinary => 1222,
+        WriteMode::Quick => 678,
+    }
+}
+
+/// Which event, counted from 1, makes the new page visible.
+pub fn naming_pulse(mode: WriteMode) -> usize {
+    match mode {
+        WriteMode::Ordinary => 1213,
+        WriteMode::Quick => 669,
+    }
+}
+
+/// How many slots of CRC there are between a byte to write and its pulse.
+pub fn crc_slots(mode: WriteMode) -> usize {
+    match mode {
+        WriteMode::Ordinary => 16,
+        WriteMode::Quick => 0,
+    }
+}
+
+/// The command that writes data in a mode, and the one that writes status.
+pub fn write_commands(mode: WriteMode) -> [u8; 2] {
+    match mode {
+        WriteMode::Ordinary => [0x0F, 0x55],
+        WriteMode::Quick => [0xF3, 0xF5],
+    }
+}
+
+pub fn start_model(
+    image: &[u8],
+    new: &[u8],
+    page: u8,
+    mode: WriteMode,
+) -> Result<model::publisher::Publisher, model::refusal::Refusal> {
+    model::publisher::Publisher::start(image, new, page, mode_of_model(mode))
+}
+
 // ---- images
 
 /// The place in an image of a status address.
@@ -106,12 +158,15 @@ pub fn some_image(g: &mut Generator) -> Vec<u8> {
     }
 }
 
-/// An image on which a page can be updated, and that page.
+/// An image on which a page can be updated, in either mode, and that page.
 pub fn image_to_update(g: &mut Generator) -> (Vec<u8>, u8) {
     loop {
         let image = some_image(g);
         let page = g.below(64) as u8;
-        if model::publisher::Publisher::start(&image, &[0; 32], page).is_ok() {
+        if MODES
+            .iter()
+            .all(|&mode| start_model(&image, &[0; 32], page, mode).is_ok())
+        {
             return (image, page);
         }
     }
@@ -206,19 +261,24 @@ fn some_address(g: &mut Generator, status: bool) -> u16 {
 
 /// A memory command and what belongs to it, mostly well-formed.
 fn add_memory_command(g: &mut Generator, events: &mut Vec<Event>) {
-    let command = match g.below(16) {
+    let command = match g.below(22) {
         0 => g.byte(),
         1..=3 => 0xF0,
         4..=6 => 0xAA,
         7..=9 => 0xA5,
         10..=12 => 0x0F,
-        _ => 0x55,
+        13..=15 => 0x55,
+        16..=18 => 0xF3,
+        _ => 0xF5,
     };
-    let status = matches!(command, 0xAA | 0x55);
+    let status = matches!(command, 0xAA | 0x55 | 0xF5);
     let address = some_address(g, status).to_le_bytes();
     send(events, &[command, address[0], address[1]]);
-    match command {
-        0x0F | 0x55 => {
+    let mode = MODES
+        .into_iter()
+        .find(|&mode| write_commands(mode).contains(&command));
+    match mode {
+        Some(mode) => {
             for _ in 0..1 + g.below(20) {
                 let byte = if g.once_in(3) {
                     g.byte()
@@ -226,7 +286,10 @@ fn add_memory_command(g: &mut Generator, events: &mut Vec<Event>) {
                     !(1 << g.below(8))
                 };
                 events.extend(bits_of_byte(byte).map(Event::Slot));
-                read(g, events, 16);
+                // Now and then the slots of the other mode.
+                let slots = crc_slots(mode);
+                let slots = if g.once_in(40) { 16 - slots } else { slots };
+                read(g, events, slots);
                 if !g.once_in(20) {
                     events.push(Event::Pulse);
                 }
@@ -239,7 +302,7 @@ fn add_memory_command(g: &mut Generator, events: &mut Vec<Event>) {
                 }
             }
         }
-        _ => {
+        None => {
             let slots = match g.below(30) {
                 0 => 8 * 2600,
                 1..=6 => g.below(4000),

@@ -1,7 +1,7 @@
 -- The laws of the publisher's later calls.
 use Prim.Native.Nat.{ℕ, _<_}
 use Rattle.call_laws.specs.Calls.{CallLaws}
-use Rattle.call_laws.proofs.Ranges.{start-fits, call-keeps}
+use Rattle.call_laws.proofs.Ranges.{start-fits, call-keeps, call-not}
 use Rattle.call_laws.proofs.Refused.{refusal-repeats}
 use Rattle.call_laws.proofs.Ordered.{events-ordered}
 use Rattle.call_laws.proofs.Complete.{all-told}
@@ -11,6 +11,7 @@ call-laws n some =
     record {
       starts = start-fits n some;
       keeps = call-keeps n;
+      no-crc = λ s reply quick. call-not n s quick reply;
       ordered = events-ordered n;
       complete = all-told n;
       refuses = refusal-repeats n some;

@@ -1,18 +1,23 @@
 -- Every start and every call keep to the ranges; within them a call takes its turn.
-use Prim.Native.Nat.{ℕ, _+_, _<_, _≤_}
+use Prim.Native.Nat.{ℕ, _+_, _-_, _<_, _≤_}
 use mathlib.Core.Bool.{Bool, true, false, cond, _&&_}
-use mathlib.Core.List.{List}
-use mathlib.Core.Path.{_≡_, refl}
+use mathlib.Core.List.{List, []}
+use mathlib.Core.Path.{_≡_, refl, sym, _∙_}
 use native.Mathlib.Omega.{arith}
 use lib.Dec.{eqb, ltb}
-use lib.ListN.{length}
+use lib.ListN.{length, getD}
 use borrow.Author.Tests.{lt-ltb, le-ltb, le-leb, ltb-true}
 use Rattle.terms.specs.Bits.{same}
+use Rattle.terms.specs.Refusal.{numberOf, valuesOf}
+use Rattle.terms.specs.Told.{Told, refused, refusing, judge}
+use Rattle.terms.proofs.Refusals.{same-refusal}
 use Rattle.terms.specs.declared.address.Page.{Page}
 use Rattle.terms.specs.declared.verdict.Verdict.{Verdict}
 use Rattle.terms.specs.declared.verdict.Verdict.the-variants.{Final, Loop, Outside}
 use Rattle.terms.specs.declared.refusal.Refusal.{Refusal}
-use Rattle.terms.specs.declared.refusal.Refusal.the-variants.{ImageLength, PageNumber, Loop as LoopRefusal, Outside as OutsideRefusal, NoFreePage, RedirectionProtected, BufferLength}
+use Rattle.terms.specs.declared.refusal.Refusal.the-variants.{ImageLength, PageNumber, Loop as LoopRefusal, Outside as OutsideRefusal, NoFreePage, RedirectionProtected, BufferLength, Crc16}
+use Rattle.terms.specs.declared.write_mode.WriteMode.{WriteMode}
+use Rattle.terms.specs.declared.write_mode.WriteMode.the-variants.{Ordinary, Quick}
 use Rattle.memory.specs.declared.layout.Field.the-variants.{RedirectionProtection}
 use Rattle.memory.specs.Layout.{isImage, isPage}
 use Rattle.memory.specs.Image.{redirectionOf, pageBit}
@@ -23,6 +28,7 @@ use Rattle.chain.specs.Free.{lowestFree}
 use Rattle.chain.proofs.Walks.{final-means, outside-means}
 use Rattle.chain.proofs.Frees.{found-means}
 use Rattle.update_laws.proofs.Relink.{final-below}
+use Rattle.master.specs.Next.{Next}
 use Rattle.plan.specs.declared.Wanted.{Wanted}
 use Rattle.plan.specs.declared.Wanted.the-variants.{Anything, Presence, Bit, LastCrcBit, LastBackBit}
 use Rattle.plan.specs.declared.Step.{Step}
@@ -35,9 +41,9 @@ use Rattle.publisher.specs.declared.Stage.the-variants.{Running, Done, Stopped}
 use Rattle.publisher.specs.declared.Publisher.{Publisher}
 use Rattle.publisher.specs.declared.Stepped.{Stepped}
 use Rattle.publisher.specs.Start.{foundChoice, choiceFree, choiceFinal, choiceWalked, choiceOf, ready, stoppedBy, choiceState, startState}
-use Rattle.publisher.specs.Call.{planIn, judgedLast, judgedPresence, judgedOf, wantedOf, atStage, goneOn, judgedTurn, turnOf, isStop, stageInRange, inRange, turnTold, callAnswer, callState}
-use Rattle.plan.specs.Plan.{total}
-use Rattle.call_laws.specs.Calls.{called, told}
+use Rattle.publisher.specs.Call.{planIn, totalIn, judgedLast, judgedPresence, judgedOf, stepOf, wantedOf, atStage, goneOn, judgedTurn, turnOf, readsCrc, isStop, stageInRange, inRange, turnTold, callAnswer, callState}
+use Rattle.plan.specs.Plan.{resetStep, planOf, totalOf}
+use Rattle.plan.proofs.Checks.{judgesCrc, no-crc}
 
 -- what holds of both cases of a test
 either : {A : Type 0} (P : A → Type 0) (t : Bool) (x y : A) → (t ≡ true → P x) → (t ≡ false → P y) → P (cond t x y)
@@ -46,18 +52,18 @@ either P false x y f g = g refl
 
 -- ---- what a start holds
 
-module _ (n : ℕ) (some : 0 < n) (img new : List ℕ) where
+module _ (n : ℕ) (some : 0 < n) (mode : WriteMode) (img new : List ℕ) where
   -- the state of a choice is within the ranges
   abbrev FitChoice : Choice → Type 0
-  FitChoice c = inRange total n (choiceState n img new c) ≡ true
+  FitChoice c = inRange n (choiceState n mode img new c) ≡ true
 
-  stopped-fit : (r : Refusal) → isStop n r ≡ true → FitChoice (Refused r)
+  stopped-fit : (r : Refusal) → isStop mode n r ≡ true → FitChoice (Refused r)
   unfolding choiceState stoppedBy inRange stageInRange isPage
   stopped-fit r h = simp (lt-ltb 0 n some, h)
 
   ready-fit : (l t : Page) → l .0 < n → t .0 < n → FitChoice (Accepted l t)
   unfolding choiceState ready inRange stageInRange isPage
-  ready-fit l t a b = simp (lt-ltb (l .0) n a, lt-ltb (t .0) n b)
+  ready-fit l t a b = simp (lt-ltb (l .0) n a, lt-ltb (t .0) n b, le-leb 0 (totalOf mode) (omega arith))
 
   found-fit : (l : Page) (f : Found) → l .0 < n → lowestFree n img (l .0) ≡ f → FitChoice (foundChoice l f)
   unfolding foundChoice isStop
@@ -79,7 +85,7 @@ module _ (n : ℕ) (some : 0 < n) (img new : List ℕ) where
   walked-fit p (Outside x) a e =
       stopped-fit (OutsideRefusal x) (simp (le-ltb x n (outside-means (redirectionOf n img) n p x a .0 e .beyond)))
 
-  pub start-fits : (p : ℕ) → inRange total n (startState n img new p) ≡ true
+  pub start-fits : (p : ℕ) → inRange n (startState n mode img new p) ≡ true
   unfolding choiceOf isStop isPage
   start-fits p =
       either FitChoice (isImage n img) _ _
@@ -90,10 +96,11 @@ module _ (n : ℕ) (some : 0 < n) (img new : List ℕ) where
 
 -- ---- what a call keeps
 
--- what the ranges ask of a state's pages
+-- what the ranges ask of a state
 pub record Bounds (n : ℕ) (s : Publisher) : Type 0 where
   pub last-page : isPage n (s .last .0) ≡ true
   pub target-page : isPage n (s .target .0) ≡ true
+  pub stage : stageInRange (s .mode) n (s .stage) ≡ true
 
 cond-first : (t x : Bool) → cond t x false ≡ true → t ≡ true
 cond-first true x h = refl
@@ -103,77 +110,131 @@ cond-second : (t x : Bool) → cond t x false ≡ true → x ≡ true
 cond-second true x h = h
 cond-second false x h = cc
 
-pub bounds : (n : ℕ) (s : Publisher) → inRange total n s ≡ true → Bounds n s
+pub bounds : (n : ℕ) (s : Publisher) → inRange n s ≡ true → Bounds n s
 unfolding inRange
 bounds n s h =
     let r = cond-second (isPage n (s .last .0)) _ h in
     record {
       last-page = cond-first (isPage n (s .last .0)) _ h;
       target-page = cond-first (isPage n (s .target .0)) _ r;
+      stage = cond-second (isPage n (s .target .0)) _ r;
     }
 
 -- a refusal for a reply is one that stops
-abbrev pub MayStop : ℕ → Judged → Type 0
-MayStop n (On good) = Unit {0}
-MayStop n (Stop r) = isStop n r ≡ true
+abbrev pub MayStop : WriteMode → ℕ → Judged → Type 0
+MayStop mode n (On good) = Unit {0}
+MayStop mode n (Stop r) = isStop mode n r ≡ true
 
-pub may-stop : (n : ℕ) (w : Wanted) (good reply : Bool) → MayStop n (judgedOf w good reply)
+wanted-stop : (mode : WriteMode) (n : ℕ) (w : Wanted) (good reply : Bool) → (judgesCrc w ≡ true → readsCrc mode ≡ true) → MayStop mode n (judgedOf w good reply)
 unfolding judgedOf judgedLast judgedPresence isStop
-may-stop n Anything good reply = tt
-may-stop n Presence good reply = either (MayStop n) reply _ _ (λ _. refl) (λ _. tt)
-may-stop n (Bit b) good reply = tt
-may-stop n (LastCrcBit b) good reply = either (MayStop n) (good && same b reply) _ _ (λ _. tt) (λ _. refl)
-may-stop n (LastBackBit b) good reply = either (MayStop n) (good && same b reply) _ _ (λ _. tt) (λ _. refl)
+wanted-stop mode n Anything good reply f = tt
+wanted-stop mode n Presence good reply f = either (MayStop mode n) reply _ _ (λ _. refl) (λ _. tt)
+wanted-stop mode n (Bit b) good reply f = tt
+wanted-stop mode n (LastCrcBit b) good reply f = either (MayStop mode n) (good && same b reply) _ _ (λ _. tt) (λ _. f refl)
+wanted-stop mode n (LastBackBit b) good reply f = either (MayStop mode n) (good && same b reply) _ _ (λ _. tt) (λ _. refl)
+
+-- only a plan that reads CRCs judges one
+reads-crc : (mode : WriteMode) (l t used : ℕ) (new : List ℕ) (k : ℕ) → judgesCrc (wantedOf (planOf mode l t used new) k) ≡ true → readsCrc mode ≡ true
+unfolding readsCrc wantedOf stepOf
+reads-crc Ordinary l t used new k h = refl
+reads-crc Quick l t used new k h =
+    either (λ (w : Wanted). judgesCrc w ≡ true → false ≡ true) (eqb k 0) Anything (getD (planOf Quick l t used new) (k - 1) resetStep .wanted)
+    (λ _. λ e. e) (λ _. λ e. sym (no-crc l t used new (k - 1)) ∙ e) h
+
+pub may-stop : (n : ℕ) (s : Publisher) (k : ℕ) (good reply : Bool) → MayStop (s .mode) n (judgedOf (wantedOf (planIn s) k) good reply)
+may-stop n s k good reply =
+    wanted-stop (s .mode) n (wantedOf (planIn s) k) good reply (reads-crc (s .mode) (s .last .0) (s .target .0) (s .used) (s .new) k)
 
 module _ (n : ℕ) (s : Publisher) (low : isPage n (s .last .0) ≡ true) (high : isPage n (s .target .0) ≡ true) where
-  within : (g : Stage) → stageInRange total n g ≡ true → inRange total n (atStage s g) ≡ true
+  within : (g : Stage) → stageInRange (s .mode) n g ≡ true → inRange n (atStage s g) ≡ true
   unfolding inRange
   within g h = simp (low, high, h)
 
-  pub running-within : (k : ℕ) (good : Bool) → k ≤ total → inRange total n (atStage s (Running k good)) ≡ true
+  pub running-within : (k : ℕ) (good : Bool) → k ≤ totalIn s → inRange n (atStage s (Running k good)) ≡ true
   unfolding stageInRange
-  running-within k good le = within (Running k good) (le-leb k total le)
+  running-within k good le = within (Running k good) (le-leb k (totalIn s) le)
 
-  pub done-within : inRange total n (atStage s Done) ≡ true
+  pub done-within : inRange n (atStage s Done) ≡ true
   unfolding stageInRange
   done-within = within Done refl
 
-  pub stopped-within : (r : Refusal) → isStop n r ≡ true → inRange total n (atStage s (Stopped r)) ≡ true
+  pub stopped-within : (r : Refusal) → isStop (s .mode) n r ≡ true → inRange n (atStage s (Stopped r)) ≡ true
   unfolding stageInRange
   stopped-within r h = within (Stopped r) h
 
   abbrev FitStepped : Stepped → Type 0
-  FitStepped t = inRange total n (t .state) ≡ true
+  FitStepped t = inRange n (t .state) ≡ true
 
-  gone-fit : (plan : List Step) (k : ℕ) (good : Bool) → FitStepped (goneOn total plan s k good)
+  gone-fit : (k : ℕ) (good : Bool) → FitStepped (goneOn (totalIn s) (planIn s) s k good)
   unfolding goneOn
-  gone-fit plan k good =
-      either FitStepped (ltb k total) _ _
-      (λ e. running-within (k + 1) good (omega (arith, ltb-true k total e)))
+  gone-fit k good =
+      either FitStepped (ltb k (totalIn s)) _ _
+      (λ e. running-within (k + 1) good (omega (arith, ltb-true k (totalIn s) e)))
       (λ _. done-within)
 
-  judged-fit : (plan : List Step) (k : ℕ) (j : Judged) → MayStop n j → FitStepped (judgedTurn total plan s k j)
+  judged-fit : (k : ℕ) (j : Judged) → MayStop (s .mode) n j → FitStepped (judgedTurn (totalIn s) (planIn s) s k j)
   unfolding judgedTurn
-  judged-fit plan k (On good) h = gone-fit plan k good
-  judged-fit plan k (Stop r) h = stopped-within r h
+  judged-fit k (On good) h = gone-fit k good
+  judged-fit k (Stop r) h = stopped-within r h
 
-  turn-fit : (plan : List Step) (g : Stage) (reply : Bool) → inRange total n s ≡ true → FitStepped (turnOf total plan s g reply)
+  turn-fit : (g : Stage) (reply : Bool) → inRange n s ≡ true → FitStepped (turnOf (totalIn s) (planIn s) s g reply)
   unfolding turnOf
-  turn-fit plan (Running k good) reply h = judged-fit plan k _ (may-stop n (wantedOf plan k) good reply)
-  turn-fit plan Done reply h = h
-  turn-fit plan (Stopped r) reply h = h
+  turn-fit (Running k good) reply h = judged-fit k _ (may-stop n s k good reply)
+  turn-fit Done reply h = h
+  turn-fit (Stopped r) reply h = h
 
 -- within the ranges a call takes its turn
 abbrev pub turn : Publisher → Bool → Stepped
-turn s reply = turnOf total (planIn s) s (s .stage) reply
+turn s reply = turnOf (totalIn s) (planIn s) s (s .stage) reply
 
-pub called-is : (n : ℕ) (s : Publisher) (reply : Bool) → inRange total n s ≡ true → called n s reply ≡ turn s reply .state
+pub called-is : (n : ℕ) (s : Publisher) (reply : Bool) → inRange n s ≡ true → callState n s reply ≡ turn s reply .state
 unfolding callState
 called-is n s reply h = simp h
 
-pub told-is : (n : ℕ) (s : Publisher) (reply : Bool) → inRange total n s ≡ true → told n s reply ≡ turnTold (turn s reply .answer)
+pub told-is : (n : ℕ) (s : Publisher) (reply : Bool) → inRange n s ≡ true → callAnswer n s reply ≡ turnTold (turn s reply .answer)
 unfolding callAnswer
 told-is n s reply h = simp h
 
-pub call-keeps : (n : ℕ) (s : Publisher) (reply : Bool) → inRange total n s ≡ true → inRange total n (called n s reply) ≡ true
-call-keeps n s reply h = let f = bounds n s h in rw (called-is n s reply h) (turn-fit n s (f .last-page) (f .target-page) (planIn s) (s .stage) reply h)
+pub call-keeps : (n : ℕ) (s : Publisher) (reply : Bool) → inRange n s ≡ true → inRange n (callState n s reply) ≡ true
+call-keeps n s reply h = let f = bounds n s h in rw (called-is n s reply h) (turn-fit n s (f .last-page) (f .target-page) (s .stage) reply h)
+
+-- ---- a publisher that reads no CRC
+
+-- what a call tells, other than 2, is not 6
+abbrev NotCrc : Told Next → Type 0
+NotCrc a = a ≡ refused 6 [] → ⊥
+
+not-crc : (n : ℕ) (r : Refusal) → isStop Quick n r ≡ true → NotCrc (refusing r)
+unfolding isStop readsCrc
+not-crc n r h e =
+    let number : numberOf r ≡ numberOf Crc16 = cc in
+    let values : valuesOf r ≡ valuesOf Crc16 = cc in
+    let never : false ≡ true = rw (same-refusal r Crc16 number values) at h in
+    let z : _≡_ {A = ℕ} 0 1 = cc in
+    omega arith
+
+module _ (n : ℕ) (s : Publisher) (quick : s .mode ≡ Quick) where
+  gone-not : (k : ℕ) (good : Bool) → NotCrc (turnTold (goneOn (totalIn s) (planIn s) s k good .answer))
+  unfolding goneOn
+  gone-not k good =
+      either (λ (t : Stepped). NotCrc (turnTold (t .answer))) (ltb k (totalIn s)) _ _
+      (λ _. λ e. let z : _≡_ {A = ℕ} 0 1 = cc in omega arith) (λ _. λ e. let z : _≡_ {A = ℕ} 0 1 = cc in omega arith)
+
+  judged-not : (k : ℕ) (j : Judged) → MayStop (s .mode) n j → NotCrc (turnTold (judgedTurn (totalIn s) (planIn s) s k j .answer))
+  unfolding judgedTurn
+  judged-not k (On good) h = gone-not k good
+  judged-not k (Stop r) h = not-crc n r (rw quick at h)
+
+  turn-not : (g : Stage) (reply : Bool) → stageInRange (s .mode) n g ≡ true → NotCrc (turnTold (turnOf (totalIn s) (planIn s) s g reply .answer))
+  unfolding turnOf stageInRange
+  turn-not (Running k good) reply h = judged-not k _ (may-stop n s k good reply)
+  turn-not Done reply h = λ e. let z : _≡_ {A = ℕ} 0 1 = cc in omega arith
+  turn-not (Stopped r) reply h = not-crc n r (rw quick at h)
+
+  pub call-not : (reply : Bool) → NotCrc (callAnswer n s reply)
+  unfolding callAnswer
+  call-not reply = go (inRange n s) refl
+    where
+      go : (t : Bool) → inRange n s ≡ t → NotCrc (judge t 2 (turnTold (turn s reply .answer)))
+      go true h = turn-not (s .stage) reply (bounds n s h .stage)
+      go false h = λ e. let z : _≡_ {A = ℕ} 2 6 = cc in omega arith

@@ -8,6 +8,7 @@ use Rattle.terms.specs.declared.verdict.Verdict.{Verdict}
 use Rattle.terms.specs.declared.verdict.Verdict.the-variants.{Final, Loop, Outside}
 use Rattle.chip.specs.Walk.{walkAnswer}
 use Rattle.chip.specs.Free.{freeAnswer}
+use Rattle.terms.specs.declared.write_mode.WriteMode.{WriteMode}
 use Rattle.update.specs.Update.{updateAnswer, updatedImage}
 use Rattle.capi.specs.Answers.{isAnswer, isNumber, eightOf}
 
@@ -38,6 +39,6 @@ unfoldable pub updateValues : ℕ → List ℕ → List ℕ → List ℕ → ℕ
 updateValues n img number new p answer = judge (isAnswer answer) 10 (judge (isNumber number) 10 (updateAnswer n img new p))
 
 -- the image, touched by nothing but an update
-unfoldable pub updateImage : ℕ → List ℕ → List ℕ → List ℕ → ℕ → ℕ → List ℕ → List ℕ
-updateImage n img number new p events answer =
-    cond (isAnswer answer) (cond (isNumber number) (updatedImage n (eightOf number) img new p events) img) img
+unfoldable pub updateImage : ℕ → WriteMode → List ℕ → List ℕ → List ℕ → ℕ → ℕ → List ℕ → List ℕ
+updateImage n mode img number new p events answer =
+    cond (isAnswer answer) (cond (isNumber number) (updatedImage n mode (eightOf number) img new p events) img) img

@@ -12,6 +12,7 @@ use chip::walk::Walked;
 use terms::address::Page;
 use terms::refusal::Refusal;
 use terms::verdict::Verdict;
+use terms::write_mode::WriteMode;
 use update::Updated;
 
 // The verdict of a walk: its values, and its code.
@@ -100,7 +101,40 @@ fn tell_update(updated: Updated, answer: &mut [u8]) -> u32
     }
 }
 
-// A whole update of a page, on the image of a chip with this number, cut after so many events. Refused: 10, 1, 3, 4, 5, 9, 8.
+// A whole update of a page in a mode, on the image of a chip with this number, cut after so many events. Refused: 10, 1, 3, 4, 5, 9, 8.
+fn update_in(
+    mode: WriteMode,
+    image: &mut [u8],
+    number: &[u8],
+    new: &[u8],
+    page: u8,
+    events: u32,
+    answer: &mut [u8],
+) -> u32
+    ensures code { λ r. ⌜ r ≡ codeIn (updateValues 64 (now (image .entry)) (now (number .entry)) (now (new .entry)) page (now (answer .entry))) ⌝ }
+    ensures answer { λ r. ⌜ now (answer .exit) ≡ answered (updateValues 64 (now (image .entry)) (now (number .entry)) (now (new .entry)) page (now (answer .entry))) (now (answer .entry)) ⌝ }
+    ensures image { λ r. ⌜ now (image .exit) ≡ updateImage 64 mode (now (image .entry)) (now (number .entry)) (now (new .entry)) page events (now (answer .entry)) ⌝ }
+{
+    if !answer::is_answer(answer) {
+        return 10;
+    }
+    if !answer::is_number(number) {
+        return 10;
+    }
+    tell_update(
+        update::update(
+            mode,
+            image,
+            answer::eight_of(number),
+            new,
+            Page(page),
+            events,
+        ),
+        answer,
+    )
+}
+
+// In the ordinary mode.
 #[no_mangle]
 pub extern "C" fn ds2505_update(
     image: &mut [u8],
@@ -112,16 +146,32 @@ pub extern "C" fn ds2505_update(
 ) -> u32
     ensures code { λ r. ⌜ r ≡ codeIn (updateValues 64 (now (image .entry)) (now (number .entry)) (now (new .entry)) page (now (answer .entry))) ⌝ }
     ensures answer { λ r. ⌜ now (answer .exit) ≡ answered (updateValues 64 (now (image .entry)) (now (number .entry)) (now (new .entry)) page (now (answer .entry))) (now (answer .entry)) ⌝ }
-    ensures image { λ r. ⌜ now (image .exit) ≡ updateImage 64 (now (image .entry)) (now (number .entry)) (now (new .entry)) page events (now (answer .entry)) ⌝ }
+    ensures image { λ r. ⌜ now (image .exit) ≡ updateImage 64 WriteMode.Ordinary (now (image .entry)) (now (number .entry)) (now (new .entry)) page events (now (answer .entry)) ⌝ }
 {
-    if !answer::is_answer(answer) {
-        return 10;
-    }
-    if !answer::is_number(number) {
-        return 10;
-    }
-    tell_update(
-        update::update(image, answer::eight_of(number), new, Page(page), events),
+    update_in(
+        WriteMode::Ordinary,
+        image,
+        number,
+        new,
+        page,
+        events,
         answer,
     )
+}
+
+// In the quick mode.
+#[no_mangle]
+pub extern "C" fn ds2505_update_quick(
+    image: &mut [u8],
+    number: &[u8],
+    new: &[u8],
+    page: u8,
+    events: u32,
+    answer: &mut [u8],
+) -> u32
+    ensures code { λ r. ⌜ r ≡ codeIn (updateValues 64 (now (image .entry)) (now (number .entry)) (now (new .entry)) page (now (answer .entry))) ⌝ }
+    ensures answer { λ r. ⌜ now (answer .exit) ≡ answered (updateValues 64 (now (image .entry)) (now (number .entry)) (now (new .entry)) page (now (answer .entry))) (now (answer .entry)) ⌝ }
+    ensures image { λ r. ⌜ now (image .exit) ≡ updateImage 64 WriteMode.Quick (now (image .entry)) (now (number .entry)) (now (new .entry)) page events (now (answer .entry)) ⌝ }
+{
+    update_in(WriteMode::Quick, image, number, new, page, events, answer)
 }

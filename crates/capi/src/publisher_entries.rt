@@ -2,9 +2,9 @@
 ghost use mathlib.Core.Path.{_≡_};
 ghost use Rattle.terms.specs.Told.{judgedTold, unlessRefused};
 ghost use Rattle.publisher.specs.Start.{startTold};
-ghost use Rattle.publisher.specs.Call.{turnTold};
+ghost use Rattle.publisher.specs.Call.{turnTold, callAnswer, callState};
 ghost use Rattle.packing.specs.Publisher.{publisherBuffer};
-ghost use Rattle.runs.specs.Publisher.{publisherAfter, publisherTold, publisherEvents, publisherEnd};
+ghost use Rattle.runs.specs.Publisher.{publisherEvents, publisherEnd};
 ghost use Rattle.capi.specs.Calls.{following};
 ghost use Rattle.capi.specs.Answers.{codeIn, answered, nextAnswered};
 ghost use Rattle.capi.specs.Publisher.{started, publishTold, publishEvents, publisherRunTold, publisherRunEvents, publisherStarted, publisherStartState, publisherStepTold, publisherStepState, publisherCallTold, publisherCallState};
@@ -18,6 +18,7 @@ use publisher::StartAnswer;
 use publisher::Started;
 use terms::address::Page;
 use terms::refusal::Judged;
+use terms::write_mode::WriteMode;
 
 // What a call told, and its code.
 fn tell(told: Answer, answer: &mut [u8]) -> u32
@@ -62,6 +63,7 @@ fn run_started(begun: Started, replies: &[u8], events: &mut [u8], answer: &mut [
 
 fn run_judged(
     judged: Judged,
+    mode: WriteMode,
     image: &[u8],
     new: &[u8],
     page: u8,
@@ -69,14 +71,14 @@ fn run_judged(
     events: &mut [u8],
     answer: &mut [u8],
 ) -> u32
-    ensures code { λ r. ⌜ r ≡ codeIn (following (judgedTold judged) (publishTold 64 (now (image .entry)) (now (new .entry)) page (now (replies .entry)))) ⌝ }
-    ensures events { λ r. ⌜ now (events .exit) ≡ unlessRefused (judgedTold judged) (publishEvents 64 (now (image .entry)) (now (new .entry)) page (now (replies .entry)) (now (events .entry))) (now (events .entry)) ⌝ }
-    ensures answer { λ r. ⌜ now (answer .exit) ≡ nextAnswered (following (judgedTold judged) (publishTold 64 (now (image .entry)) (now (new .entry)) page (now (replies .entry)))) (now (answer .entry)) ⌝ }
+    ensures code { λ r. ⌜ r ≡ codeIn (following (judgedTold judged) (publishTold 64 mode (now (image .entry)) (now (new .entry)) page (now (replies .entry)))) ⌝ }
+    ensures events { λ r. ⌜ now (events .exit) ≡ unlessRefused (judgedTold judged) (publishEvents 64 mode (now (image .entry)) (now (new .entry)) page (now (replies .entry)) (now (events .entry))) (now (events .entry)) ⌝ }
+    ensures answer { λ r. ⌜ now (answer .exit) ≡ nextAnswered (following (judgedTold judged) (publishTold 64 mode (now (image .entry)) (now (new .entry)) page (now (replies .entry)))) (now (answer .entry)) ⌝ }
 {
     match judged {
         Judged::Refused(r) => answer::refuse(r, answer),
         Judged::Accepted => run_started(
-            publisher::start(image, new, Page(page)),
+            publisher::start(mode, image, new, Page(page)),
             replies,
             events,
             answer,
@@ -84,8 +86,34 @@ fn run_judged(
     }
 }
 
-// The update of a page by a publisher fed these replies: a byte for each call, its event or FFh, and what the last call told.
+// The update of a page in a mode by a publisher fed these replies: a byte for each call, its event or FFh, and what the last call told.
 // Refused: 10, 2, 1, 3, 4, 5, 9, 8.
+fn run_in(
+    mode: WriteMode,
+    image: &[u8],
+    new: &[u8],
+    page: u8,
+    replies: &[u8],
+    events: &mut [u8],
+    answer: &mut [u8],
+) -> u32
+    ensures code { λ r. ⌜ r ≡ codeIn (publisherRunTold 64 mode (now (image .entry)) (now (new .entry)) page (now (replies .entry)) (now (events .entry)) (now (answer .entry))) ⌝ }
+    ensures events { λ r. ⌜ now (events .exit) ≡ publisherRunEvents 64 mode (now (image .entry)) (now (new .entry)) page (now (replies .entry)) (now (events .entry)) (now (answer .entry)) ⌝ }
+    ensures answer { λ r. ⌜ now (answer .exit) ≡ nextAnswered (publisherRunTold 64 mode (now (image .entry)) (now (new .entry)) page (now (replies .entry)) (now (events .entry)) (now (answer .entry))) (now (answer .entry)) ⌝ }
+{
+    run_judged(
+        calls::judge_run(replies, events, answer),
+        mode,
+        image,
+        new,
+        page,
+        replies,
+        events,
+        answer,
+    )
+}
+
+// In the ordinary mode.
 #[no_mangle]
 pub extern "C" fn ds2505_publisher_run(
     image: &[u8],
@@ -95,12 +123,12 @@ pub extern "C" fn ds2505_publisher_run(
     events: &mut [u8],
     answer: &mut [u8],
 ) -> u32
-    ensures code { λ r. ⌜ r ≡ codeIn (publisherRunTold 64 (now (image .entry)) (now (new .entry)) page (now (replies .entry)) (now (events .entry)) (now (answer .entry))) ⌝ }
-    ensures events { λ r. ⌜ now (events .exit) ≡ publisherRunEvents 64 (now (image .entry)) (now (new .entry)) page (now (replies .entry)) (now (events .entry)) (now (answer .entry)) ⌝ }
-    ensures answer { λ r. ⌜ now (answer .exit) ≡ nextAnswered (publisherRunTold 64 (now (image .entry)) (now (new .entry)) page (now (replies .entry)) (now (events .entry)) (now (answer .entry))) (now (answer .entry)) ⌝ }
+    ensures code { λ r. ⌜ r ≡ codeIn (publisherRunTold 64 WriteMode.Ordinary (now (image .entry)) (now (new .entry)) page (now (replies .entry)) (now (events .entry)) (now (answer .entry))) ⌝ }
+    ensures events { λ r. ⌜ now (events .exit) ≡ publisherRunEvents 64 WriteMode.Ordinary (now (image .entry)) (now (new .entry)) page (now (replies .entry)) (now (events .entry)) (now (answer .entry)) ⌝ }
+    ensures answer { λ r. ⌜ now (answer .exit) ≡ nextAnswered (publisherRunTold 64 WriteMode.Ordinary (now (image .entry)) (now (new .entry)) page (now (replies .entry)) (now (events .entry)) (now (answer .entry))) (now (answer .entry)) ⌝ }
 {
-    run_judged(
-        calls::judge_run(replies, events, answer),
+    run_in(
+        WriteMode::Ordinary,
         image,
         new,
         page,
@@ -108,6 +136,23 @@ pub extern "C" fn ds2505_publisher_run(
         events,
         answer,
     )
+}
+
+// In the quick mode.
+#[no_mangle]
+pub extern "C" fn ds2505_publisher_run_quick(
+    image: &[u8],
+    new: &[u8],
+    page: u8,
+    replies: &[u8],
+    events: &mut [u8],
+    answer: &mut [u8],
+) -> u32
+    ensures code { λ r. ⌜ r ≡ codeIn (publisherRunTold 64 WriteMode.Quick (now (image .entry)) (now (new .entry)) page (now (replies .entry)) (now (events .entry)) (now (answer .entry))) ⌝ }
+    ensures events { λ r. ⌜ now (events .exit) ≡ publisherRunEvents 64 WriteMode.Quick (now (image .entry)) (now (new .entry)) page (now (replies .entry)) (now (events .entry)) (now (answer .entry)) ⌝ }
+    ensures answer { λ r. ⌜ now (answer .exit) ≡ nextAnswered (publisherRunTold 64 WriteMode.Quick (now (image .entry)) (now (new .entry)) page (now (replies .entry)) (now (events .entry)) (now (answer .entry))) (now (answer .entry)) ⌝ }
+{
+    run_in(WriteMode::Quick, image, new, page, replies, events, answer)
 }
 
 fn keep_started(begun: Started, state: &mut [u8], answer: &mut [u8]) -> u32
@@ -127,7 +172,33 @@ fn keep_started(begun: Started, state: &mut [u8], answer: &mut [u8]) -> u32
     }
 }
 
-// The state before the first call. Refused: 10, 1, 3, 4, 5, 9, 8.
+// The state before the first call of an update in a mode. Refused: 10, 1, 3, 4, 5, 9, 8.
+fn start_in(
+    mode: WriteMode,
+    image: &[u8],
+    new: &[u8],
+    page: u8,
+    state: &mut [u8],
+    answer: &mut [u8],
+) -> u32
+    ensures code { λ r. ⌜ r ≡ codeIn (publisherStarted 64 (now (image .entry)) (now (new .entry)) page (now (state .entry)) (now (answer .entry))) ⌝ }
+    ensures state { λ r. ⌜ now (state .exit) ≡ publisherStartState 64 mode (now (image .entry)) (now (new .entry)) page (now (state .entry)) (now (answer .entry)) ⌝ }
+    ensures answer { λ r. ⌜ now (answer .exit) ≡ answered (publisherStarted 64 (now (image .entry)) (now (new .entry)) page (now (state .entry)) (now (answer .entry))) (now (answer .entry)) ⌝ }
+{
+    if !answer::is_answer(answer) {
+        return 10;
+    }
+    if state.len() != 48 {
+        return 10;
+    }
+    keep_started(
+        publisher::start(mode, image, new, Page(page)),
+        state,
+        answer,
+    )
+}
+
+// In the ordinary mode.
 #[no_mangle]
 pub extern "C" fn ds2505_publisher_start(
     image: &[u8],
@@ -137,23 +208,33 @@ pub extern "C" fn ds2505_publisher_start(
     answer: &mut [u8],
 ) -> u32
     ensures code { λ r. ⌜ r ≡ codeIn (publisherStarted 64 (now (image .entry)) (now (new .entry)) page (now (state .entry)) (now (answer .entry))) ⌝ }
-    ensures state { λ r. ⌜ now (state .exit) ≡ publisherStartState 64 (now (image .entry)) (now (new .entry)) page (now (state .entry)) (now (answer .entry)) ⌝ }
+    ensures state { λ r. ⌜ now (state .exit) ≡ publisherStartState 64 WriteMode.Ordinary (now (image .entry)) (now (new .entry)) page (now (state .entry)) (now (answer .entry)) ⌝ }
     ensures answer { λ r. ⌜ now (answer .exit) ≡ answered (publisherStarted 64 (now (image .entry)) (now (new .entry)) page (now (state .entry)) (now (answer .entry))) (now (answer .entry)) ⌝ }
 {
-    if !answer::is_answer(answer) {
-        return 10;
-    }
-    if state.len() != 48 {
-        return 10;
-    }
-    keep_started(publisher::start(image, new, Page(page)), state, answer)
+    start_in(WriteMode::Ordinary, image, new, page, state, answer)
+}
+
+// In the quick mode.
+#[no_mangle]
+pub extern "C" fn ds2505_publisher_start_quick(
+    image: &[u8],
+    new: &[u8],
+    page: u8,
+    state: &mut [u8],
+    answer: &mut [u8],
+) -> u32
+    ensures code { λ r. ⌜ r ≡ codeIn (publisherStarted 64 (now (image .entry)) (now (new .entry)) page (now (state .entry)) (now (answer .entry))) ⌝ }
+    ensures state { λ r. ⌜ now (state .exit) ≡ publisherStartState 64 WriteMode.Quick (now (image .entry)) (now (new .entry)) page (now (state .entry)) (now (answer .entry)) ⌝ }
+    ensures answer { λ r. ⌜ now (answer .exit) ≡ answered (publisherStarted 64 (now (image .entry)) (now (new .entry)) page (now (state .entry)) (now (answer .entry))) (now (answer .entry)) ⌝ }
+{
+    start_in(WriteMode::Quick, image, new, page, state, answer)
 }
 
 // A call on a state, and the state after it.
 fn call_state(before: Publisher, reply: bool, state: &mut [u8], answer: &mut [u8]) -> u32
-    ensures code { λ r. ⌜ r ≡ codeIn (publisherTold 64 before reply) ⌝ }
-    ensures state { λ r. ⌜ now (state .exit) ≡ publisherBuffer (publisherAfter 64 before reply) (now (state .entry)) ⌝ }
-    ensures answer { λ r. ⌜ now (answer .exit) ≡ nextAnswered (publisherTold 64 before reply) (now (answer .entry)) ⌝ }
+    ensures code { λ r. ⌜ r ≡ codeIn (callAnswer 64 before reply) ⌝ }
+    ensures state { λ r. ⌜ now (state .exit) ≡ publisherBuffer (callState 64 before reply) (now (state .entry)) ⌝ }
+    ensures answer { λ r. ⌜ now (answer .exit) ≡ nextAnswered (callAnswer 64 before reply) (now (answer .entry)) ⌝ }
 {
     let stepped = publisher::call(before, reply);
     let told = stepped.answer;
@@ -163,9 +244,9 @@ fn call_state(before: Publisher, reply: bool, state: &mut [u8], answer: &mut [u8
 }
 
 fn call_unpacked(unpacked: Unpacked, reply: bool, state: &mut [u8], answer: &mut [u8]) -> u32
-    ensures code { λ r. ⌜ r ≡ codeIn (following (judgedTold (unpacked .judged)) (publisherTold 64 (unpacked .state) reply)) ⌝ }
-    ensures state { λ r. ⌜ now (state .exit) ≡ unlessRefused (judgedTold (unpacked .judged)) (publisherBuffer (publisherAfter 64 (unpacked .state) reply) (now (state .entry))) (now (state .entry)) ⌝ }
-    ensures answer { λ r. ⌜ now (answer .exit) ≡ nextAnswered (following (judgedTold (unpacked .judged)) (publisherTold 64 (unpacked .state) reply)) (now (answer .entry)) ⌝ }
+    ensures code { λ r. ⌜ r ≡ codeIn (following (judgedTold (unpacked .judged)) (callAnswer 64 (unpacked .state) reply)) ⌝ }
+    ensures state { λ r. ⌜ now (state .exit) ≡ unlessRefused (judgedTold (unpacked .judged)) (publisherBuffer (callState 64 (unpacked .state) reply) (now (state .entry))) (now (state .entry)) ⌝ }
+    ensures answer { λ r. ⌜ now (answer .exit) ≡ nextAnswered (following (judgedTold (unpacked .judged)) (callAnswer 64 (unpacked .state) reply)) (now (answer .entry)) ⌝ }
 {
     let judged = unpacked.judged;
     let before = unpacked.state;
@@ -195,7 +276,8 @@ fn call_judged(judged: Judged, reply: bool, state: &mut [u8], answer: &mut [u8])
     }
 }
 
-// One call with a reply, 0 or 1: the next event, or the end with L and T. Refused: 10, 2, 13, 6, 7.
+// One call with a reply, 0 or 1, in the mode of the state: the next event, or the end with L and T. Refused: 10, 2, 13, 6 (in the
+// ordinary mode), 7.
 #[no_mangle]
 pub extern "C" fn ds2505_publisher_call(state: &mut [u8], reply: u8, answer: &mut [u8]) -> u32
     ensures code { λ r. ⌜ r ≡ codeIn (publisherCallTold 64 (now (state .entry)) reply (now (answer .entry))) ⌝ }

@@ -56,7 +56,7 @@ module _ (n : ℕ) where
   pulse-length (Memory Silent) img = refl
   pulse-length (Memory (Receive i k register crc)) img = refl
   pulse-length (Memory (Send o left v crc)) img = refl
-  pulse-length (Memory (Armed t byte)) img = programmed-length n img t byte
+  pulse-length (Memory (Armed mode t byte)) img = programmed-length n img t byte
 
   pub image-length : (s : Stage) (e : Event) (img : List ℕ) → length (imageAfter n s e img) ≡ length img
   unfolding imageAfter

@@ -12,6 +12,8 @@ use Rattle.terms.specs.Told.{accepted}
 use Rattle.terms.specs.Bits.{bitsOf, bitsOfBytes}
 use Rattle.terms.specs.declared.address.Space.{Space}
 use Rattle.terms.specs.declared.address.Space.the-variants.{Data, Status}
+use Rattle.terms.specs.declared.write_mode.WriteMode.the-variants.{Ordinary}
+use Rattle.terms.specs.WriteMode.{writeCommand}
 use Rattle.bus.specs.declared.Event.the-variants.{Reset}
 use Rattle.bus.specs.Slots.{slots, ones, reading, lines}
 use Rattle.crc.specs.Polynomial.{crc16Polynomial}
@@ -19,18 +21,16 @@ use Rattle.crc.specs.Crc.{crcBytes, crcBits, crc16Of, crc16Word}
 use Rattle.crc.proofs.Runs.{bytes-after, bytes-bits}
 use Rattle.memory.specs.Layout.{dataSize}
 use Rattle.memory.specs.Image.{dataByte, statusByte, redirectionOf}
-use Rattle.memory_function.specs.declared.stage.Incoming.the-variants.{Data as DataByte}
-use Rattle.memory_function.specs.Limits.{limitOf, isAddress, addressBits, keptAddress, targetAt}
+use Rattle.memory_function.specs.Limits.{limitOf, isAddress, addressBits, keptAddress}
 use Rattle.memory_function.proofs.Addresses.{limit-fits}
 use Rattle.function_laws.specs.Streams.{bytesFrom, crcOf, header, memoryStream, statusStream, extendedPages, extendedStream}
 use Rattle.function_laws.proofs.Addresses.{address-laws}
 use Rattle.chip.specs.Run.{Chip, answers, lineOf}
-use Rattle.chip_laws.specs.Session.{Ready, Selection, thenOnes, writeCommand}
+use Rattle.chip_laws.specs.Session.{Ready, Selection, thenOnes}
 use Rattle.chip_laws.specs.Laws.{Draws, startingAt, Fits, WriteFits, NoticeLaws}
-use Rattle.chip_laws.proofs.Runs.{_then_}
-use Rattle.chip_laws.proofs.Slots.{bits-length, bytes-length, lines-read, ready, byte-in}
+use Rattle.chip_laws.proofs.Slots.{bits-length, bytes-length, lines-read}
 use Rattle.chip_laws.proofs.Sessions.{read-sessions}
-use Rattle.chip_laws.proofs.Writes.{starts, crc-read}
+use Rattle.chip_laws.proofs.Writes.{byte-arms}
 
 -- ---- lists
 
@@ -146,25 +146,18 @@ module _ (n : ℕ) (low : n ≤ 256) where
 
     write-heard : (c : Chip) {ms ls : List Bool} (space : Space) (a byte : ℕ) → Ready n c → Selection (c .state .number) ms ls → a < 65536
         → keptAddress n a < limitOf n space → byte < 256
-        → let sent = bitsOfBytes (header (writeCommand space) a) in
+        → let sent = bitsOfBytes (header (writeCommand Ordinary space) a) in
         answers n c (Reset ∷ (slots (ms ++ sent) ++ (slots (bitsOf 8 byte) ++ reading 16)))
-        ≡ map accepted (false ∷ ((ls ++ sent) ++ (bitsOf 8 byte ++ crcOf (header (writeCommand space) (keptAddress n a) ++ (byte ∷ [])))))
+        ≡ map accepted (false ∷ ((ls ++ sent) ++ (bitsOf 8 byte ++ crcOf (header (writeCommand Ordinary space) (keptAddress n a) ++ (byte ∷ [])))))
     unfolding crcBytes
-    write-heard c space a byte ok sel la lt small =
-        let k = keptAddress n a in
-        let register = crc16Of (header (writeCommand space) k) in
-        let first = starts n whole space a c ok sel la lt in
-        let ok₁ = ready n whole ok first in
-        let second = byte-in n whole c (DataByte (targetAt space k)) register byte small ok₁ in
-        let all = first then second then crc-read n whole c (targetAt space k) byte register (ready n whole ok₁ second) in
-        all .told
+    write-heard c space a byte ok sel la lt small = byte-arms n whole c Ordinary space a byte ok sel la lt small .told
 
     write-noticed : (c : Chip) {ms ls : List Bool} (space : Space) (a byte : ℕ) → Ready n c → Selection (c .state .number) ms ls → a < 65536
         → keptAddress n a < limitOf n space → byte < 256 → WriteFits n c ms ls space a byte → a < 2 ^ addressBits n
     write-noticed c {ms} {ls} space a byte ok sel la lt small fits =
         let heard = tail-eq-of-cons-eq (told-once _ _ (sym (write-heard c space a byte ok sel la lt small) ∙ fits)) in
-        not-dropped (writeCommand space) a (byte ∷ []) la
-        (append-cancel-left (bitsOf 8 byte) _ _ (append-cancel-left (ls ++ bitsOfBytes (header (writeCommand space) a)) _ _ heard))
+        not-dropped (writeCommand Ordinary space) a (byte ∷ []) la
+        (append-cancel-left (bitsOf 8 byte) _ _ (append-cancel-left (ls ++ bitsOfBytes (header (writeCommand Ordinary space) a)) _ _ heard))
 
     write-fits : (c : Chip) {ms ls : List Bool} (space : Space) (a byte : ℕ) → Ready n c → Selection (c .state .number) ms ls → a < limitOf n space → byte < 256
         → WriteFits n c ms ls space a byte

@@ -10,6 +10,9 @@ use borrow.Author.Tests.{le-ltb, ltb-true}
 use Rattle.terms.specs.Bits.{bitsOf, bitsOfBytes}
 use Rattle.terms.specs.declared.address.Space.{Space}
 use Rattle.terms.specs.declared.address.Space.the-variants.{Data, Status}
+use Rattle.terms.specs.declared.write_mode.WriteMode.{WriteMode}
+use Rattle.terms.specs.declared.write_mode.WriteMode.the-variants.{Ordinary, Quick}
+use Rattle.terms.specs.WriteMode.{writeCommand}
 use Rattle.bus.specs.declared.Event.the-variants.{Reset}
 use Rattle.bus.specs.Slots.{slots, lines}
 use Rattle.crc.specs.Crc.{crcBytes, crc16Byte, crc16Of}
@@ -34,7 +37,7 @@ use Rattle.function_laws.proofs.Sessions.{read-laws}
 use Rattle.chip.specs.declared.event.Stage.the-variants.{Rom, Memory}
 use Rattle.chip.specs.Event.{silent, awaitingRom, awaitingMemory, leading, replyOf, imageAfter, stageAfter}
 use Rattle.chip.specs.Run.{Chip}
-use Rattle.chip_laws.specs.Session.{Ready, _at_, Goes, Selection, skip, read, matched, searched, thenOnes, writeCommand}
+use Rattle.chip_laws.specs.Session.{Ready, _at_, Goes, Selection, skip, read, matched, searched, thenOnes}
 use Rattle.chip_laws.specs.Laws.{RomLaws, Draws, ReadLaws, Silenced, SilenceLaws}
 use Rattle.chip_laws.proofs.Runs.{_then_, further, event}
 use Rattle.chip_laws.proofs.Slots.{slots-append, lines-ones, bits-length, ready, over-rom, draws-stream, byte-in}
@@ -121,9 +124,8 @@ module _ (n : ℕ) (whole : n % 8 ≡ 0) where
       let third = rw (parts a) at (byte-in n whole c (AddressHigh command (a % 256)) (crc16Byte (crc16Byte 0 byte) (a % 256)) (a / 256) (omega arith) ok₂) in
       rw (kept-low n a) (simp (append-nil, slots-append) (first then second then third))
 
-  -- ---- the commands that read
+  -- ---- a session up to the address
 
-  -- a session up to the address
   pub up-to-address : (c : Chip) {ms ls : List Bool} (command : Command) (byte a : ℕ) → Ready n c → Selection (c .state .number) ms ls
       → byte < 256 → memoryCommand byte ≡ beginning command byte → a < 65536
       → Goes n c (Reset ∷ slots (ms ++ bitsOfBytes (header byte a))) (false ∷ (ls ++ bitsOfBytes (header byte a)))
@@ -131,6 +133,22 @@ module _ (n : ℕ) (whole : n % 8 ≡ 0) where
   up-to-address c {ms} command byte a ok sel lt e la =
       let first = selects c ok sel in
       rw (slots-append ms (bitsOfBytes (header byte a))) (first then header-in c command byte a lt e la (ready n whole ok first))
+
+  -- the command bytes of the writes
+  pub write-begins : (mode : WriteMode) (space : Space) → memoryCommand (writeCommand mode space) ≡ beginning (Write mode space) (writeCommand mode space)
+  unfolding memoryCommand
+  write-begins Ordinary Data = refl
+  write-begins Ordinary Status = refl
+  write-begins Quick Data = refl
+  write-begins Quick Status = refl
+
+  pub write-byte : (mode : WriteMode) (space : Space) → writeCommand mode space < 256
+  write-byte Ordinary Data = lit< tt
+  write-byte Ordinary Status = lit< tt
+  write-byte Quick Data = lit< tt
+  write-byte Quick Status = lit< tt
+
+  -- ---- the commands that read
 
   draws : (c : Chip) {ms ls : List Bool} (command : Command) (byte a : ℕ) {stream : List Bool} → Ready n c → Selection (c .state .number) ms ls
       → byte < 256 → memoryCommand byte ≡ beginning command byte → a < 65536
@@ -181,18 +199,18 @@ module _ (n : ℕ) (whole : n % 8 ≡ 0) where
   too-high c command byte a ok sel lt e la z = rw z at (up-to-address c command byte a ok sel lt e la)
 
   write-too-high : (c : Chip) {ms ls : List Bool} (a : ℕ) → Ready n c → Selection (c .state .number) ms ls → a < 65536
-      → (space : Space) → limitOf n space ≤ keptAddress n a → Silenced n c ms ls (writeCommand space) a
-  unfolding memoryCommand addressed startWrite
-  write-too-high c a ok sel la Data le = too-high c (Write Data) 0x0F a ok sel (lit< tt) refl la (simp (no-address Data (keptAddress n a) le))
-  write-too-high c a ok sel la Status le = too-high c (Write Status) 0x55 a ok sel (lit< tt) refl la (simp (no-address Status (keptAddress n a) le))
+      → (mode : WriteMode) (space : Space) → limitOf n space ≤ keptAddress n a → Silenced n c ms ls (writeCommand mode space) a
+  unfolding addressed startWrite
+  write-too-high c a ok sel la mode space le =
+      too-high c (Write mode space) (writeCommand mode space) a ok sel (write-byte mode space) (write-begins mode space) la (simp (no-address space (keptAddress n a) le))
 
   pub silences : SilenceLaws n
   unfolding memoryCommand addressed startMemory startStatus startExtended received
   silences =
       record {
-        unknown = λ c {ms} {ls} byte ok sel lt h₁ h₂ h₃ h₄ h₅.
+        unknown = λ c {ms} {ls} byte ok sel lt h₁ h₂ h₃ h₄ h₅ h₆ h₇.
             let first = selects c ok sel in
-            let e : memoryCommand byte ≡ Silent = simp (h₁, h₂, h₃, h₄, h₅) in
+            let e : memoryCommand byte ≡ Silent = simp (h₁, h₂, h₃, h₄, h₅, h₆, h₇) in
             rw (slots-append ms (bitsOf 8 byte)) (first then rw e at (byte-in n whole c CommandByte 0 byte lt (ready n whole ok first)));
         too-high = λ c {ms} {ls} a ok sel la. (
           (λ le. (

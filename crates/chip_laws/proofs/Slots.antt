@@ -1,7 +1,7 @@
 -- Slots one after the other: through a ROM function, while the chip sends, and while it takes in bytes.
 use Prim.Native.Nat.{ℕ, zero, suc, _+_, _*_, _/_, _%_, _<_}
 use mathlib.Core.Path.{_≡_, refl, sym, ap, ap₂, _∙_, subst}
-use mathlib.Core.Bool.{Bool, true, _&&_}
+use mathlib.Core.Bool.{Bool, true, false, _&&_}
 use mathlib.Core.List.{List, [], _∷_, _++_, map}
 use native.Mathlib.Nat.{add-zero}
 use native.Mathlib.Omega.{arith}
@@ -26,6 +26,7 @@ use Rattle.chip.specs.declared.event.Stage.the-variants.{Rom, Memory}
 use Rattle.chip.specs.Event.{leading, stageSlot, stageBit, replyOf, imageAfter, stageAfter}
 use Rattle.chip.specs.Run.{Chip, run, answers}
 use Rattle.chip_laws.specs.Session.{Ready, _at_, Goes, thenOnes}
+use Rattle.chip_laws.specs.Laws.{isArmed}
 use Rattle.chip_laws.proofs.Runs.{stays, _then_, further, event}
 use Rattle.chip_laws.proofs.States.{keeps, and-true}
 
@@ -134,6 +135,16 @@ module _ (n : ℕ) (whole : n % 8 ≡ 0) where
   bits-in c i crc m (m′ ∷ ms) k v l ok =
       let first = rw (earlier i k (shiftIn v m) crc (c .image) (omega arith)) at (one-taken c i k v crc m ok) in
       first then bits-in c i crc m′ ms (k + 1) (shiftIn v m) (omega arith) (ready ok first)
+
+  -- with fewer than eight bits in, the chip is not armed
+  pub bits-unarmed : (c : Chip) (i : Incoming) (crc : ℕ) (ms : List Bool) (k v : ℕ) → k + length ms < 8 → Ready n (c at Memory (Receive i k v crc))
+      → isArmed (run n (c at Memory (Receive i k v crc)) (slots ms) .state .stage) ≡ false
+  unfolding run
+  bits-unarmed c i crc [] k v lt ok = refl
+  bits-unarmed c i crc (m ∷ ms) k v lt ok =
+      let first = rw (earlier i k (shiftIn v m) crc (c .image) (omega arith)) at (one-taken c i k v crc m ok) in
+      subst (λ (d : Chip). isArmed (run n d (slots ms) .state .stage) ≡ false) (sym (first .there))
+      (bits-unarmed c i crc ms (k + 1) (shiftIn v m) (omega arith) (ready ok first))
 
   pub byte-in : (c : Chip) (i : Incoming) (crc byte : ℕ) → byte < 256 → Ready n (c at Memory (receiving i crc))
       → Goes n (c at Memory (receiving i crc)) (slots (bitsOf 8 byte)) (bitsOf 8 byte) (c at Memory (received n i byte crc (c .image)))

@@ -7,6 +7,7 @@ use native.Mathlib.Omega.{arith}
 use lib.ListN.{length}
 use Rattle.terms.specs.Told.{Told, refused, accepted, unlessRefused}
 use Rattle.terms.specs.declared.address.Target.{Target}
+use Rattle.terms.specs.declared.write_mode.WriteMode.{WriteMode}
 use Rattle.bus.specs.declared.Event.{Event}
 use Rattle.bus.specs.declared.Event.the-variants.{Reset, Slot, Pulse, PowerLoss}
 use Rattle.memory.specs.Write.{programmed}
@@ -58,7 +59,7 @@ module _ (n : ℕ) where
   unarmed (Memory Silent) img h = refl
   unarmed (Memory (Receive i k register crc)) img h = refl
   unarmed (Memory (Send o left v crc)) img h = refl
-  unarmed (Memory (Armed t byte)) img h = absurd (let z : _≡_ {A = ℕ} 0 1 = cc in omega arith)
+  unarmed (Memory (Armed mode t byte)) img h = absurd (let z : _≡_ {A = ℕ} 0 1 = cc in omega arith)
 
   same-image : (s : Stage) (e : Event) (img : List ℕ) → (isPulse e && isArmed s) ≡ false → imageAfter n s e img ≡ img
   unfolding imageAfter
@@ -83,16 +84,16 @@ module _ (n : ℕ) where
   unfolding eventState
   number-kept c e = either-number (draws n c e) _ (c .state) refl
 
-  pub armed-pulse : (c : Chip) (t : Target) (byte : ℕ) → c .state .stage ≡ Memory (Armed t byte) → Ready n c
+  pub armed-pulse : (c : Chip) (mode : WriteMode) (t : Target) (byte : ℕ) → c .state .stage ≡ Memory (Armed mode t byte) → Ready n c
       → next n c Pulse .image ≡ programmed n (c .image) t byte
-  armed-pulse c t byte e ok =
+  armed-pulse c mode t byte e ok =
       ap (λ (d : Chip). d .image) (next-is n c ok Pulse)
       ∙ unfold imageAfter pulseImageOf pulseImage in ap (λ s. imageAfter n s Pulse (c .image)) e
 
-  pub armed-slot : (c : Chip) (t : Target) (byte : ℕ) (bit : Bool) → Ready n (c at Memory (Armed t byte))
-      → Goes n (c at Memory (Armed t byte)) (Slot bit ∷ []) (bit ∷ []) (c at silent)
+  pub armed-slot : (c : Chip) (mode : WriteMode) (t : Target) (byte : ℕ) (bit : Bool) → Ready n (c at Memory (Armed mode t byte))
+      → Goes n (c at Memory (Armed mode t byte)) (Slot bit ∷ []) (bit ∷ []) (c at silent)
   unfolding replyOf stageBit memoryBit stageAfter stageSlot memorySlot imageAfter
-  armed-slot c t byte bit ok = rw (and-true bit) at (event n (c at Memory (Armed t byte)) ok (Slot bit))
+  armed-slot c mode t byte bit ok = rw (and-true bit) at (event n (c at Memory (Armed mode t byte)) ok (Slot bit))
 
   pub silent-stays : (c : Chip) (e : Event) → Ready n (c at silent) → isReset e ≡ false → Goes n (c at silent) (e ∷ []) (silentReply e ∷ []) (c at silent)
   unfolding replyOf stageBit memoryBit stageAfter stageSlot memorySlot imageAfter pulseImageOf pulseImage stagePulse pulseStage

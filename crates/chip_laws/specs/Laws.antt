@@ -10,6 +10,9 @@ use Rattle.terms.specs.Told.{accepted}
 use Rattle.terms.specs.declared.address.Space.{Space}
 use Rattle.terms.specs.declared.address.Space.the-variants.{Data, Status}
 use Rattle.terms.specs.declared.address.Target.{Target}
+use Rattle.terms.specs.declared.write_mode.WriteMode.{WriteMode}
+use Rattle.terms.specs.declared.write_mode.WriteMode.the-variants.{Ordinary}
+use Rattle.terms.specs.WriteMode.{writeCommand}
 use Rattle.bus.specs.declared.Event.{Event}
 use Rattle.bus.specs.declared.Event.the-variants.{Reset, Slot, Pulse, PowerLoss}
 use Rattle.bus.specs.Slots.{slots, ones, reading, lines}
@@ -18,7 +21,7 @@ use Rattle.memory.specs.Layout.{imageSize}
 use Rattle.memory.specs.Image.{dataByte, statusByte, redirectionOf}
 use Rattle.memory.specs.Write.{programmed}
 use Rattle.memory_function.specs.declared.stage.MemoryStage.the-variants.{Silent, Receive, Send, Armed}
-use Rattle.memory_function.specs.Limits.{limitOf, isAddress, addressBits, keptAddress}
+use Rattle.memory_function.specs.Limits.{limitOf, isAddress, addressBits, keptAddress, targetAt}
 use Rattle.rom_function.specs.Rom.{numberBit}
 use Rattle.rom_laws.specs.Rom.{Ask, numberBits, searchBits, searchSent}
 use Rattle.function_laws.specs.Streams.{bytesFrom, crcOf, header, memoryStream, statusStream, extendedStream}
@@ -26,8 +29,8 @@ use Rattle.function_laws.specs.Writes.{writtenFrom}
 use Rattle.chip.specs.declared.event.Stage.{Stage}
 use Rattle.chip.specs.declared.event.Stage.the-variants.{Rom, Memory}
 use Rattle.chip.specs.Event.{silent, awaitingMemory, powerUp}
-use Rattle.chip.specs.Run.{Chip, next, answers}
-use Rattle.chip_laws.specs.Session.{Ready, _at_, _holding_, Goes, Selection, thenOnes, writeCommand, writeEvents, writeLines, beforeByte}
+use Rattle.chip.specs.Run.{Chip, next, run, answers}
+use Rattle.chip_laws.specs.Session.{Ready, _at_, _holding_, Goes, Selection, thenOnes, crcEvents, crcLines, writeEvents, writeLines, beforeByte}
 
 -- ---- states and images
 
@@ -36,7 +39,7 @@ isArmed (Rom r) = false
 isArmed (Memory Silent) = false
 isArmed (Memory (Receive i k register crc)) = false
 isArmed (Memory (Send o left v crc)) = false
-isArmed (Memory (Armed t byte)) = true
+isArmed (Memory (Armed mode t byte)) = true
 
 abbrev pub isPulse : Event → Bool
 isPulse Reset = false
@@ -65,11 +68,11 @@ pub record StateLaws (n : ℕ) : Type 0 where
   pub image-kept : (c : Chip) (e : Event) → (isPulse e && isArmed (c .state .stage)) ≡ false → next n c e .image ≡ c .image
   pub number-kept : (c : Chip) (e : Event) → next n c e .state .number ≡ c .state .number
   -- a pulse on an armed chip ANDs the byte into the target, unless that is protected or a gap
-  pub armed-pulse : (c : Chip) (t : Target) (byte : ℕ) → c .state .stage ≡ Memory (Armed t byte) → Ready n c
+  pub armed-pulse : (c : Chip) (mode : WriteMode) (t : Target) (byte : ℕ) → c .state .stage ≡ Memory (Armed mode t byte) → Ready n c
       → next n c Pulse .image ≡ programmed n (c .image) t byte
   -- a slot when armed silences the chip
-  pub armed-slot : (c : Chip) (t : Target) (byte : ℕ) (bit : Bool) → Ready n (c at Memory (Armed t byte))
-      → Goes n (c at Memory (Armed t byte)) (Slot bit ∷ []) (bit ∷ []) (c at silent)
+  pub armed-slot : (c : Chip) (mode : WriteMode) (t : Target) (byte : ℕ) (bit : Bool) → Ready n (c at Memory (Armed mode t byte))
+      → Goes n (c at Memory (Armed mode t byte)) (Slot bit ∷ []) (bit ∷ []) (c at silent)
   -- a silent chip stays so until reset, replying with the master's bit
   pub silent-stays : (c : Chip) (e : Event) → Ready n (c at silent) → isReset e ≡ false → Goes n (c at silent) (e ∷ []) (silentReply e ∷ []) (c at silent)
   -- power loss keeps the image and makes the chip silent
@@ -114,15 +117,27 @@ pub record ReadLaws (n : ℕ) : Type 0 where
   pub extended : (c : Chip) {ms ls : List Bool} (a : ℕ) → Ready n c → Selection (c .state .number) ms ls → a < 65536
       → Draws n c ms ls (header 0xA5 a) (startingAt n Data a (extendedStream n (c .image)))
 
+-- in both modes
 pub record WriteLaws (n : ℕ) : Type 0 where
   -- bytes from a start address of sixteen bits on, of either memory: they go to the address as kept, over which the first CRC is too
-  pub write : (c : Chip) {ms ls : List Bool} (space : Space) (a : ℕ) (bytes : List ℕ) → Ready n c → Selection (c .state .number) ms ls
+  pub write : (c : Chip) {ms ls : List Bool} (mode : WriteMode) (space : Space) (a : ℕ) (bytes : List ℕ) → Ready n c → Selection (c .state .number) ms ls
       → a < 65536 → let k = keptAddress n a in
       k + length bytes ≤ limitOf n space → ((i : ℕ) → i < length bytes → getD bytes i 0 < 256) → 0 < length bytes
       → Goes n c
-      (Reset ∷ (slots (ms ++ bitsOfBytes (header (writeCommand space) a)) ++ writeEvents bytes))
-      (false ∷ ((ls ++ bitsOfBytes (header (writeCommand space) a)) ++ writeLines n (c .image) space k (crc16Of (header (writeCommand space) k)) bytes))
-      ((c at beforeByte n space (k + length bytes)) holding writtenFrom n (c .image) space k bytes)
+      (Reset ∷ (slots (ms ++ bitsOfBytes (header (writeCommand mode space) a)) ++ writeEvents mode bytes))
+      (false ∷ ((ls ++ bitsOfBytes (header (writeCommand mode space) a)) ++ writeLines n (c .image) mode space k (crc16Of (header (writeCommand mode space) k)) bytes))
+      ((c at beforeByte n mode space (k + length bytes)) holding writtenFrom n (c .image) space k bytes)
+  -- the chip is armed after the eighth bit of a byte and, in the ordinary mode, the last bit of its CRC ..
+  pub arms : (c : Chip) {ms ls : List Bool} (mode : WriteMode) (space : Space) (a byte : ℕ) → Ready n c → Selection (c .state .number) ms ls
+      → a < 65536 → keptAddress n a < limitOf n space → byte < 256
+      → Goes n c
+      (Reset ∷ (slots (ms ++ bitsOfBytes (header (writeCommand mode space) a)) ++ (slots (bitsOf 8 byte) ++ crcEvents mode)))
+      (false ∷ ((ls ++ bitsOfBytes (header (writeCommand mode space) a)) ++ (bitsOf 8 byte ++ crcLines mode (crc16Of (header (writeCommand mode space) (keptAddress n a))) (byte ∷ []))))
+      (c at Memory (Armed mode (targetAt space (keptAddress n a)) byte))
+  -- .. and not after fewer than eight bits, whatever they are
+  pub unarmed : (c : Chip) {ms ls : List Bool} (mode : WriteMode) (space : Space) (a : ℕ) (bits : List Bool) → Ready n c → Selection (c .state .number) ms ls
+      → a < 65536 → keptAddress n a < limitOf n space → length bits < 8
+      → isArmed (run n c (Reset ∷ (slots (ms ++ bitsOfBytes (header (writeCommand mode space) a)) ++ slots bits)) .state .stage) ≡ false
 
 -- ---- what silences the chip
 
@@ -132,15 +147,16 @@ Silenced n c ms ls command a =
     Goes n c (Reset ∷ slots (ms ++ bitsOfBytes (header command a))) (false ∷ (ls ++ bitsOfBytes (header command a))) (c at silent)
 
 pub record SilenceLaws (n : ℕ) : Type 0 where
-  -- a memory command byte that is none of the five
+  -- a memory command byte that is none of the seven
   pub unknown : (c : Chip) {ms ls : List Bool} (byte : ℕ) → Ready n c → Selection (c .state .number) ms ls → byte < 256
-      → (eqb byte 0xF0 ≡ false) → (eqb byte 0xAA ≡ false) → (eqb byte 0xA5 ≡ false) → (eqb byte 0x0F ≡ false) → (eqb byte 0x55 ≡ false)
+      → (eqb byte 0xF0 ≡ false) → (eqb byte 0xAA ≡ false) → (eqb byte 0xA5 ≡ false)
+      → (eqb byte 0x0F ≡ false) → (eqb byte 0x55 ≡ false) → (eqb byte 0xF3 ≡ false) → (eqb byte 0xF5 ≡ false)
       → Goes n c (Reset ∷ slots (ms ++ bitsOf 8 byte)) (false ∷ (ls ++ bitsOf 8 byte)) (c at silent)
   -- a start address of sixteen bits that, as kept, the memory does not have
   pub too-high : (c : Chip) {ms ls : List Bool} (a : ℕ) → Ready n c → Selection (c .state .number) ms ls → a < 65536
       → (limitOf n Data ≤ keptAddress n a → Silenced n c ms ls 0xF0 a × Silenced n c ms ls 0xA5 a)
       × (limitOf n Status ≤ keptAddress n a → Silenced n c ms ls 0xAA a)
-      × ((space : Space) → limitOf n space ≤ keptAddress n a → Silenced n c ms ls (writeCommand space) a)
+      × ((mode : WriteMode) (space : Space) → limitOf n space ≤ keptAddress n a → Silenced n c ms ls (writeCommand mode space) a)
 
 -- ---- what a master sees of a start address
 
@@ -150,12 +166,12 @@ Fits n c ms ls command a bytes =
     answers n c (Reset ∷ slots (ms ++ (bitsOfBytes (header command a) ++ ones (8 * length bytes + 16))))
     ≡ map accepted (false ∷ (ls ++ (bitsOfBytes (header command a) ++ (bitsOfBytes bytes ++ crcOf (header command a ++ bytes)))))
 
--- The same of the first byte of a write, which the master sent.
+-- The same of the first byte of a write in the ordinary mode, which the master sent. In the quick mode no CRC is sent.
 abbrev pub WriteFits : ℕ → Chip → List Bool → List Bool → Space → ℕ → ℕ → Type 0
 WriteFits n c ms ls space a byte =
-    let sent = bitsOfBytes (header (writeCommand space) a) in
+    let sent = bitsOfBytes (header (writeCommand Ordinary space) a) in
     answers n c (Reset ∷ (slots (ms ++ sent) ++ (slots (bitsOf 8 byte) ++ reading 16)))
-    ≡ map accepted (false ∷ ((ls ++ sent) ++ (bitsOf 8 byte ++ crcOf (header (writeCommand space) a ++ (byte ∷ [])))))
+    ≡ map accepted (false ∷ ((ls ++ sent) ++ (bitsOf 8 byte ++ crcOf (header (writeCommand Ordinary space) a ++ (byte ∷ [])))))
 
 -- Where the chip sends a CRC, and the master has read all that stands before it, a CRC that fits says that no bit of the address was dropped;
 -- and where none was, the CRC fits. (Where the status memory does not have the kept address, the chip is silent and sends none.)

@@ -8,7 +8,8 @@ use lib.ListN.{length, getD}
 use Rattle.terms.specs.Bits.{bitsOf, bitsOfBytes}
 use Rattle.terms.specs.Told.{Told, refused, accepted}
 use Rattle.terms.specs.declared.address.Space.{Space}
-use Rattle.terms.specs.declared.address.Space.the-variants.{Data, Status}
+use Rattle.terms.specs.declared.write_mode.WriteMode.{WriteMode}
+use Rattle.terms.specs.declared.write_mode.WriteMode.the-variants.{Ordinary, Quick}
 use Rattle.bus.specs.declared.Event.{Event}
 use Rattle.bus.specs.declared.Event.the-variants.{Pulse}
 use Rattle.bus.specs.Slots.{slots, reading, lines}
@@ -68,25 +69,30 @@ thenOnes (b ∷ bits) (suc k) = b ∷ thenOnes bits k
 
 -- ---- a write
 
--- the command byte of each memory
-abbrev pub writeCommand : Space → ℕ
-writeCommand Data = 0x0F
-writeCommand Status = 0x55
+-- between a byte and its pulse: in the ordinary mode sixteen read slots for a CRC, and in the quick mode nothing
+abbrev pub crcEvents : WriteMode → List Event
+crcEvents Ordinary = reading 16
+crcEvents Quick = []
 
--- for each byte: its eight bits, sixteen read slots for the CRC, the pulse, and eight read slots for the target
-unfoldable pub writeEvents : List ℕ → List Event
-writeEvents [] = []
-writeEvents (byte ∷ bytes) = (slots (bitsOf 8 byte) ++ (reading 16 ++ (Pulse ∷ reading 8))) ++ writeEvents bytes
+-- what they draw: the CRC of these bytes, from this register on
+abbrev pub crcLines : WriteMode → ℕ → List ℕ → List Bool
+crcLines Ordinary register bytes = bitsOf 16 (crc16Word (crc16From register bytes))
+crcLines Quick register bytes = []
+
+-- for each byte: its eight bits, the read slots for the CRC, the pulse, and eight read slots for the target
+unfoldable pub writeEvents : WriteMode → List ℕ → List Event
+writeEvents mode [] = []
+writeEvents mode (byte ∷ bytes) = (slots (bitsOf 8 byte) ++ (crcEvents mode ++ (Pulse ∷ reading 8))) ++ writeEvents mode bytes
 
 -- What they draw, from address a of a memory on, where the CRC register holds so much before the first byte: the byte, the CRC of the
 -- register and the byte, 1, and the target as it then is. For the next byte the register is loaded with the raised address.
-unfoldable pub writeLines : ℕ → List ℕ → Space → ℕ → ℕ → List ℕ → List Bool
-writeLines n img space a register [] = []
-writeLines n img space a register (byte ∷ bytes) =
+unfoldable pub writeLines : ℕ → List ℕ → WriteMode → Space → ℕ → ℕ → List ℕ → List Bool
+writeLines n img mode space a register [] = []
+writeLines n img mode space a register (byte ∷ bytes) =
     let after = programmed n img (targetAt space a) byte in
-    (bitsOf 8 byte ++ (bitsOf 16 (crc16Word (crc16From register (byte ∷ []))) ++ (true ∷ bitsOf 8 (targetByte n after (targetAt space a)))))
-    ++ writeLines n after space (a + 1) (a + 1) bytes
+    (bitsOf 8 byte ++ (crcLines mode register (byte ∷ []) ++ (true ∷ bitsOf 8 (targetByte n after (targetAt space a)))))
+    ++ writeLines n after mode space (a + 1) (a + 1) bytes
 
 -- where the chip stands before the byte at address a, which is not the first; past the last address it is silent
-unfoldable pub beforeByte : ℕ → Space → ℕ → Stage
-beforeByte n space a = cond (ltb a (limitOf n space)) (Memory (receiving (DataByte (targetAt space a)) a)) silent
+unfoldable pub beforeByte : ℕ → WriteMode → Space → ℕ → Stage
+beforeByte n mode space a = cond (ltb a (limitOf n space)) (Memory (receiving (DataByte mode (targetAt space a)) a)) silent

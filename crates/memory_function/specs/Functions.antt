@@ -5,6 +5,7 @@ use mathlib.Core.List.{List}
 use lib.Dec.{eqb, ltb}
 use Rattle.terms.specs.Bits.{odd, shiftIn}
 use Rattle.terms.specs.declared.address.Space.the-variants.{Data, Status}
+use Rattle.terms.specs.declared.write_mode.WriteMode.the-variants.{Ordinary, Quick}
 use Rattle.crc.specs.Crc.{crc16Byte}
 use Rattle.memory.specs.Write.{programmed}
 use Rattle.memory_function.specs.declared.stage.Command.{Command}
@@ -18,7 +19,7 @@ use Rattle.memory_function.specs.declared.stage.MemoryStage.the-variants
 use Rattle.memory_function.specs.Limits.{keptAddress}
 use Rattle.memory_function.specs.Stages.{receiving, sendingCrc}
 use Rattle.memory_function.specs.Reads.{startMemory, startStatus, startExtended, pageFrom, afterMemory, afterStatus, nextStatus, afterPage, nextPage}
-use Rattle.memory_function.specs.Writes.{startWrite, nextWrite, readingBack}
+use Rattle.memory_function.specs.Writes.{startWrite, dataIn, nextWrite, readingBack}
 
 -- ---- a byte has come in
 
@@ -26,21 +27,24 @@ use Rattle.memory_function.specs.Writes.{startWrite, nextWrite, readingB
 unfoldable pub beginning : Command → ℕ → MemoryStage
 beginning c byte = receiving (AddressLow c) (crc16Byte 0 byte)
 
--- F0h Read Memory, AAh Read Status, A5h Extended Read, 0Fh Write Memory, 55h Write Status; any other byte silences the chip
+-- F0h Read Memory, AAh Read Status, A5h Extended Read, 0Fh Write Memory, 55h Write Status, F3h Speed Write Memory, F5h Speed Write
+-- Status; any other byte silences the chip
 unfoldable pub memoryCommand : ℕ → MemoryStage
 memoryCommand byte =
     cond (eqb byte 0xF0) (beginning ReadMemory 0xF0)
     (cond (eqb byte 0xAA) (beginning ReadStatus 0xAA)
     (cond (eqb byte 0xA5) (beginning ExtendedRead 0xA5)
-    (cond (eqb byte 0x0F) (beginning (Write Data) 0x0F)
-    (cond (eqb byte 0x55) (beginning (Write Status) 0x55)
-    Silent))))
+    (cond (eqb byte 0x0F) (beginning (Write Ordinary Data) 0x0F)
+    (cond (eqb byte 0x55) (beginning (Write Ordinary Status) 0x55)
+    (cond (eqb byte 0xF3) (beginning (Write Quick Data) 0xF3)
+    (cond (eqb byte 0xF5) (beginning (Write Quick Status) 0xF5)
+    Silent))))))
 
 unfoldable pub addressed : ℕ → Command → ℕ → ℕ → List ℕ → MemoryStage
 addressed n ReadMemory a crc img = startMemory n a crc img
 addressed n ReadStatus a crc img = startStatus n a crc img
 addressed n ExtendedRead a crc img = startExtended n a crc img
-addressed n (Write space) a crc img = startWrite n space a crc
+addressed n (Write mode space) a crc img = startWrite n mode space a crc
 
 -- a command starts at the address as the chip keeps it, and the CRC takes in the high byte as kept, not as sent
 unfoldable pub startedAt : ℕ → Command → ℕ → ℕ → List ℕ → MemoryStage
@@ -50,7 +54,7 @@ unfoldable pub received : ℕ → Incoming → ℕ → ℕ → List ℕ → Memo
 received n CommandByte byte crc img = memoryCommand byte
 received n (AddressLow c) byte crc img = receiving (AddressHigh c byte) (crc16Byte crc byte)
 received n (AddressHigh c low) byte crc img = startedAt n c (low + 256 * byte) crc img
-received n (DataByte t) byte crc img = sendingCrc (WriteCrc t byte) (crc16Byte crc byte)
+received n (DataByte mode t) byte crc img = dataIn mode t byte crc
 
 -- after k bits one more, and the register then holds v
 unfoldable pub receiveBit : ℕ → Incoming → ℕ → ℕ → ℕ → List ℕ → MemoryStage
@@ -67,8 +71,8 @@ sent n (RedirectionByte a) crc img = sendingCrc (RedirectionCrc a) crc
 sent n (RedirectionCrc a) crc img = pageFrom n a 0 img
 sent n (PageData a) crc img = afterPage n a crc img
 sent n (PageCrc a) crc img = nextPage n a img
-sent n (WriteCrc t byte) crc img = Armed t byte
-sent n (ReadBack t) crc img = nextWrite n t
+sent n (WriteCrc t byte) crc img = Armed Ordinary t byte
+sent n (ReadBack mode t) crc img = nextWrite n mode t
 
 unfoldable pub sendBit : ℕ → Outgoing → ℕ → ℕ → ℕ → List ℕ → MemoryStage
 sendBit n o left v crc img = cond (ltb 1 left) (Send o (left - 1) (v / 2) crc) (sent n o crc img)
@@ -79,14 +83,14 @@ unfoldable pub memorySlot : ℕ → MemoryStage → Bool → List ℕ → Memory
 memorySlot n Silent bit img = Silent
 memorySlot n (Receive i k register crc) bit img = receiveBit n i k (shiftIn register bit) crc img
 memorySlot n (Send o left v crc) bit img = sendBit n o left v crc img
-memorySlot n (Armed t byte) bit img = Silent
+memorySlot n (Armed mode t byte) bit img = Silent
 
 -- the chip's bit, 1 where it is not sending
 unfoldable pub memoryBit : MemoryStage → Bool
 memoryBit Silent = true
 memoryBit (Receive i k register crc) = true
 memoryBit (Send o left v crc) = odd v
-memoryBit (Armed t byte) = true
+memoryBit (Armed mode t byte) = true
 
 -- ---- a pulse; where the chip is not armed it changes nothing
 
@@ -94,11 +98,11 @@ unfoldable pub pulseImage : ℕ → MemoryStage → List ℕ → List ℕ
 pulseImage n Silent img = img
 pulseImage n (Receive i k register crc) img = img
 pulseImage n (Send o left v crc) img = img
-pulseImage n (Armed t byte) img = programmed n img t byte
+pulseImage n (Armed mode t byte) img = programmed n img t byte
 
 -- on the image after the pulse
 unfoldable pub pulseStage : ℕ → MemoryStage → List ℕ → MemoryStage
 pulseStage n Silent img = Silent
 pulseStage n (Receive i k register crc) img = Receive i k register crc
 pulseStage n (Send o left v crc) img = Send o left v crc
-pulseStage n (Armed t byte) img = readingBack n t img
+pulseStage n (Armed mode t byte) img = readingBack n mode t img

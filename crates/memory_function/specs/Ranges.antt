@@ -15,7 +15,7 @@ unfoldable pub incomingInRange : ℕ → Incoming → Bool
 incomingInRange n CommandByte = true
 incomingInRange n (AddressLow c) = true
 incomingInRange n (AddressHigh c low) = true
-incomingInRange n (DataByte t) = targetInRange n t
+incomingInRange n (DataByte mode t) = targetInRange n t
 
 unfoldable pub outgoingInRange : ℕ → Outgoing → Bool
 outgoingInRange n (MemoryData a) = isAddress n Data (a .0)
@@ -27,7 +27,7 @@ outgoingInRange n (RedirectionCrc a) = isAddress n Data (a .0)
 outgoingInRange n (PageData a) = isAddress n Data (a .0)
 outgoingInRange n (PageCrc a) = isAddress n Data (a .0)
 outgoingInRange n (WriteCrc t byte) = targetInRange n t
-outgoingInRange n (ReadBack t) = targetInRange n t
+outgoingInRange n (ReadBack mode t) = targetInRange n t
 
 -- how many bits it has
 unfoldable pub widthOf : Outgoing → ℕ
@@ -40,7 +40,7 @@ widthOf (RedirectionCrc a) = 16
 widthOf (PageData a) = 8
 widthOf (PageCrc a) = 16
 widthOf (WriteCrc t byte) = 16
-widthOf (ReadBack t) = 8
+widthOf (ReadBack mode t) = 8
 
 -- 0 to 7 bits are in
 unfoldable pub receiveInRange : ℕ → Incoming → ℕ → Bool
@@ -54,4 +54,4 @@ unfoldable pub memoryInRange : ℕ → MemoryStage → Bool
 memoryInRange n Silent = true
 memoryInRange n (Receive i k register crc) = receiveInRange n i k
 memoryInRange n (Send o left v crc) = sendInRange n o left
-memoryInRange n (Armed t byte) = targetInRange n t
+memoryInRange n (Armed mode t byte) = targetInRange n t

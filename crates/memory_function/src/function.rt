@@ -19,7 +19,7 @@ pub fn slot(last: Page, stage: MemoryStage, bit: bool, image: &[u8]) -> MemorySt
             receive::bit_in(last, i, k, bits::shift_in(register, bit), crc, image)
         }
         MemoryStage::Send(o, left, v, crc) => send::bit_out(last, o, left, v, crc, image),
-        MemoryStage::Armed(_, _) => MemoryStage::Silent,
+        MemoryStage::Armed(_, _, _) => MemoryStage::Silent,
     }
 }
 
@@ -31,7 +31,7 @@ pub fn chip_bit(stage: MemoryStage) -> bool
         MemoryStage::Silent => true,
         MemoryStage::Receive(_, _, _, _) => true,
         MemoryStage::Send(_, _, v, _) => bits::low(v),
-        MemoryStage::Armed(_, _) => true,
+        MemoryStage::Armed(_, _, _) => true,
     }
 }
 
@@ -44,6 +44,6 @@ pub fn pulse(last: Page, stage: MemoryStage, image: &mut [u8]) -> MemoryStage
         MemoryStage::Silent => MemoryStage::Silent,
         MemoryStage::Receive(i, k, register, crc) => MemoryStage::Receive(i, k, register, crc),
         MemoryStage::Send(o, left, v, crc) => MemoryStage::Send(o, left, v, crc),
-        MemoryStage::Armed(t, byte) => write::fire(last, t, byte, image),
+        MemoryStage::Armed(mode, t, byte) => write::fire(last, mode, t, byte, image),
     }
 }

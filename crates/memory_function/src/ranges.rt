@@ -16,7 +16,7 @@ fn incoming_in_range(last: Page, i: Incoming) -> bool
         Incoming::Command => true,
         Incoming::AddressLow(_) => true,
         Incoming::AddressHigh(_, _) => true,
-        Incoming::Data(t) => limits::target_in_range(last, t),
+        Incoming::Data(_, t) => limits::target_in_range(last, t),
     }
 }
 
@@ -33,7 +33,7 @@ fn outgoing_in_range(last: Page, o: Outgoing) -> bool
         Outgoing::PageData(a) => limits::is_address(last, Space::Data, a.0),
         Outgoing::PageCrc(a) => limits::is_address(last, Space::Data, a.0),
         Outgoing::WriteCrc(t, _) => limits::target_in_range(last, t),
-        Outgoing::ReadBack(t) => limits::target_in_range(last, t),
+        Outgoing::ReadBack(_, t) => limits::target_in_range(last, t),
     }
 }
 
@@ -51,7 +51,7 @@ fn width(o: Outgoing) -> u8
         Outgoing::PageData(_) => 8,
         Outgoing::PageCrc(_) => 16,
         Outgoing::WriteCrc(_, _) => 16,
-        Outgoing::ReadBack(_) => 8,
+        Outgoing::ReadBack(_, _) => 8,
     }
 }
 
@@ -84,6 +84,6 @@ pub fn in_range(last: Page, stage: MemoryStage) -> bool
         MemoryStage::Silent => true,
         MemoryStage::Receive(i, k, _, _) => receive_in_range(last, i, k),
         MemoryStage::Send(o, left, _, _) => send_in_range(last, o, left),
-        MemoryStage::Armed(t, _) => limits::target_in_range(last, t),
+        MemoryStage::Armed(_, t, _) => limits::target_in_range(last, t),
     }
 }

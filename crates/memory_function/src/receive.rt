@@ -9,10 +9,10 @@ use crate::stage;
 use crate::stage::Command;
 use crate::stage::Incoming;
 use crate::stage::MemoryStage;
-use crate::stage::Outgoing;
 use crate::write;
 use terms::address::Page;
 use terms::address::Space;
+use terms::write_mode::WriteMode;
 
 // A command that takes an address; its CRC starts cleared.
 fn begin(c: Command, byte: u8) -> MemoryStage
@@ -29,8 +29,10 @@ fn command(byte: u8) -> MemoryStage
         0xF0 => begin(Command::ReadMemory, 0xF0),
         0xAA => begin(Command::ReadStatus, 0xAA),
         0xA5 => begin(Command::ExtendedRead, 0xA5),
-        0x0F => begin(Command::Write(Space::Data), 0x0F),
-        0x55 => begin(Command::Write(Space::Status), 0x55),
+        0x0F => begin(Command::Write(WriteMode::Ordinary, Space::Data), 0x0F),
+        0x55 => begin(Command::Write(WriteMode::Ordinary, Space::Status), 0x55),
+        0xF3 => begin(Command::Write(WriteMode::Quick, Space::Data), 0xF3),
+        0xF5 => begin(Command::Write(WriteMode::Quick, Space::Status), 0xF5),
         _ => MemoryStage::Silent,
     }
 }
@@ -50,7 +52,7 @@ fn address_in(last: Page, c: Command, a: u16, crc: u16, image: &[u8]) -> MemoryS
         Command::ReadMemory => read::start_memory(last, a, crc, image),
         Command::ReadStatus => read::start_status(last, a, crc, image),
         Command::ExtendedRead => read::start_extended(last, a, crc, image),
-        Command::Write(space) => write::start_write(last, space, a, crc),
+        Command::Write(mode, space) => write::start_write(last, mode, space, a, crc),
     }
 }
 
@@ -78,9 +80,7 @@ fn byte_in(last: Page, i: Incoming, byte: u8, crc: u16, image: &[u8]) -> MemoryS
             stage::receive(Incoming::AddressHigh(c, byte), crc::crc16::byte(crc, byte))
         }
         Incoming::AddressHigh(c, low) => { start_at(last, c, address(low, byte), crc, image) }
-        Incoming::Data(t) => {
-            stage::send_crc(Outgoing::WriteCrc(t, byte), crc::crc16::byte(crc, byte))
-        }
+        Incoming::Data(mode, t) => write::data_in(mode, t, byte, crc),
     }
 }
 

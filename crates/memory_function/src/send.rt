@@ -8,6 +8,7 @@ use crate::stage::MemoryStage;
 use crate::stage::Outgoing;
 use crate::write;
 use terms::address::Page;
+use terms::write_mode::WriteMode;
 
 // All bits of something are out.
 fn all_out(last: Page, o: Outgoing, crc: u16, image: &[u8]) -> MemoryStage
@@ -22,8 +23,8 @@ fn all_out(last: Page, o: Outgoing, crc: u16, image: &[u8]) -> MemoryStage
         Outgoing::RedirectionCrc(a) => read::page_from(last, a, 0, image),
         Outgoing::PageData(a) => read::after_page(last, a, crc, image),
         Outgoing::PageCrc(a) => read::next_page(last, a, image),
-        Outgoing::WriteCrc(t, byte) => MemoryStage::Armed(t, byte),
-        Outgoing::ReadBack(t) => write::next_write(last, t),
+        Outgoing::WriteCrc(t, byte) => MemoryStage::Armed(WriteMode::Ordinary, t, byte),
+        Outgoing::ReadBack(mode, t) => write::next_write(last, mode, t),
     }
 }
 

@@ -5,13 +5,14 @@ use terms::address::DataAddress;
 use terms::address::Space;
 use terms::address::StatusAddress;
 use terms::address::Target;
+use terms::write_mode::WriteMode;
 
 // A memory command that takes an address.
 pub enum Command {
     ReadMemory,
     ReadStatus,
     ExtendedRead,
-    Write(Space),
+    Write(WriteMode, Space),
 }
 
 // What a byte that comes in is.
@@ -19,10 +20,11 @@ pub enum Incoming {
     Command,
     AddressLow(Command),
     AddressHigh(Command, u8),
-    Data(Target),
+    Data(WriteMode, Target),
 }
 
-// What is being sent. A data or status byte is named by its address, and a CRC by the last address that it covers.
+// What is being sent. A data or status byte is named by its address, and a CRC by the last address that it covers. A CRC before a pulse
+// is sent in the ordinary mode only.
 pub enum Outgoing {
     MemoryData(DataAddress),
     MemoryCrc,
@@ -33,7 +35,7 @@ pub enum Outgoing {
     PageData(DataAddress),
     PageCrc(DataAddress),
     WriteCrc(Target, u8),
-    ReadBack(Target),
+    ReadBack(WriteMode, Target),
 }
 
 // Silent until reset. Receive: what comes, how many of its bits are in, the register that collects them, the CRC register.
@@ -42,7 +44,7 @@ pub enum MemoryStage {
     Silent,
     Receive(Incoming, u8, u8, u16),
     Send(Outgoing, u8, u16, u16),
-    Armed(Target, u8),
+    Armed(WriteMode, Target, u8),
 }
 
 // Before the first bit of a byte that comes in.

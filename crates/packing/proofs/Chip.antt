@@ -1,10 +1,14 @@
 -- The chip's state and its bytes.
-use Prim.Native.Nat.{ℕ, _+_}
+use Prim.Native.Nat.{ℕ, _+_, _<_}
 use mathlib.Core.Path.{_≡_, refl, sym, ap, _∙_}
 use mathlib.Core.Bool.{true}
 use mathlib.Core.List.{List, _++_}
-use lib.ListN.{length, length-append}
+use lib.Dec.{lit<}
+use lib.ListN.{length}
+use Rattle.terms.specs.declared.address.Space.{Space}
 use Rattle.terms.specs.declared.address.Space.the-variants.{Data as DataSpace, Status as StatusSpace}
+use Rattle.terms.specs.declared.write_mode.WriteMode.{WriteMode}
+use Rattle.terms.specs.declared.write_mode.WriteMode.the-variants.{Ordinary, Quick}
 use Rattle.terms.specs.declared.address.Target.{Target}
 use Rattle.terms.specs.declared.address.Target.the-variants.{Data, Status}
 use Rattle.rom_function.specs.declared.RomStep.{RomStep}
@@ -20,30 +24,59 @@ use Rattle.memory_function.specs.declared.stage.MemoryStage.the-variants.{Silen
 use Rattle.chip.specs.declared.event.Stage.{Stage}
 use Rattle.chip.specs.declared.event.Stage.the-variants.{Rom, Memory}
 use Rattle.chip.specs.declared.event.State.{State}
-use Rattle.packing.specs.Front.{laid, frontAt, bytesFront}
-use Rattle.packing.specs.Chip.{spaceNumber, commandNumber, commandOf, addressed, aimed, targetOf, incomingContent, incomingOf, outgoingContent, outgoingOf, stepNumber, stepOf, contentFront, contentOf, romFront, memoryFront, stageFront, frontStage, chipBytes, chipOf, isChipState, ChipPacking}
+use Rattle.packing.specs.Front.{laid, frontAt, bytesFront, modeOf}
+use Rattle.packing.specs.Chip.{writeNumber, commandNumber, commandOf, addressed, aimed, targetOf, targetMode, incomingContent, incomingOf, outgoingContent, outgoingOf, stepNumber, stepOf, contentFront, contentOf, romFront, memoryFront, stageFront, frontStage, chipBytes, chipOf, isChipState, ChipPacking}
 use Rattle.packing.proofs.Bytes.{whole-front, whole-rest, whole-length, copy-self, copy-equal, fits-back}
 
 -- ---- stages
 
 command-back : (c : Command) → commandOf (commandNumber c) ≡ c
-unfolding commandNumber commandOf spaceNumber
+unfolding commandNumber commandOf writeNumber
 command-back ReadMemory = refl
 command-back ReadStatus = refl
 command-back ExtendedRead = refl
-command-back (Write DataSpace) = refl
-command-back (Write StatusSpace) = refl
+command-back (Write Ordinary DataSpace) = refl
+command-back (Write Ordinary StatusSpace) = refl
+command-back (Write Quick DataSpace) = refl
+command-back (Write Quick StatusSpace) = refl
+
+pub write-small : (mode : WriteMode) (space : Space) → writeNumber mode space < 4
+unfolding writeNumber
+write-small Ordinary DataSpace = lit< tt
+write-small Ordinary StatusSpace = lit< tt
+write-small Quick DataSpace = lit< tt
+write-small Quick StatusSpace = lit< tt
+
+-- the mode and the target of what is aimed
+mode-back : (what : ℕ) (mode : WriteMode) (t : Target) (value : ℕ) → targetMode (aimed what mode t value .which) ≡ mode
+unfolding targetMode modeOf aimed writeNumber
+mode-back what Ordinary (Data a) value = refl
+mode-back what Ordinary (Status a) value = refl
+mode-back what Quick (Data a) value = refl
+mode-back what Quick (Status a) value = refl
+
+target-back : (what : ℕ) (mode : WriteMode) (t : Target) (value : ℕ) → targetOf (aimed what mode t value .which) (aimed what mode t value .first) ≡ t
+unfolding targetOf aimed writeNumber
+target-back what Ordinary (Data a) value = refl
+target-back what Ordinary (Status a) value = refl
+target-back what Quick (Data a) value = refl
+target-back what Quick (Status a) value = refl
+
+-- what it is and the byte stay
+what-back : (what : ℕ) (mode : WriteMode) (t : Target) (value : ℕ) → (aimed what mode t value .what ≡ what) × (aimed what mode t value .value ≡ value)
+unfolding aimed
+what-back what mode (Data a) value = (refl, refl)
+what-back what mode (Status a) value = (refl, refl)
 
 incoming-back : (i : Incoming) → incomingOf (incomingContent i) ≡ i
-unfolding incomingContent incomingOf addressed aimed targetOf
+unfolding incomingContent incomingOf addressed
 incoming-back CommandByte = refl
 incoming-back (AddressLow c) = ap AddressLow (command-back c)
 incoming-back (AddressHigh c low) = ap (λ (x : Command). AddressHigh x low) (command-back c)
-incoming-back (DataByte (Data a)) = refl
-incoming-back (DataByte (Status a)) = refl
+incoming-back (DataByte mode t) = simp (what-back 3 mode t 0 .0, mode-back 3 mode t 0, target-back 3 mode t 0)
 
 outgoing-back : (o : Outgoing) → outgoingOf (outgoingContent o) ≡ o
-unfolding outgoingContent outgoingOf addressed aimed targetOf
+unfolding outgoingContent outgoingOf addressed
 outgoing-back (MemoryData a) = refl
 outgoing-back MemoryCrc = refl
 outgoing-back (StatusData a) = refl
@@ -52,10 +85,8 @@ outgoing-back (RedirectionByte a) = refl
 outgoing-back (RedirectionCrc a) = refl
 outgoing-back (PageData a) = refl
 outgoing-back (PageCrc a) = refl
-outgoing-back (WriteCrc (Data a) byte) = refl
-outgoing-back (WriteCrc (Status a) byte) = refl
-outgoing-back (ReadBack (Data a)) = refl
-outgoing-back (ReadBack (Status a)) = refl
+outgoing-back (WriteCrc t byte) = simp (what-back 8 Ordinary t byte .0, what-back 8 Ordinary t byte .1, target-back 8 Ordinary t byte)
+outgoing-back (ReadBack mode t) = simp (what-back 9 mode t 0 .0, mode-back 9 mode t 0, target-back 9 mode t 0)
 
 step-back : (s : RomStep) → stepOf (stepNumber s) ≡ s
 unfolding stepNumber stepOf
@@ -66,14 +97,13 @@ step-back SearchComplement = refl
 step-back SearchTake = refl
 
 stage-back : (s : Stage) → frontStage (stageFront s) ≡ s
-unfolding stageFront frontStage romFront memoryFront bytesFront contentFront contentOf addressed aimed targetOf
+unfolding stageFront frontStage romFront memoryFront bytesFront contentFront contentOf
 stage-back (Rom (RomCommand count register)) = refl
 stage-back (Rom (Number step i)) = ap (λ (x : RomStep). Rom (Number x i)) (step-back step)
 stage-back (Memory Silent) = refl
 stage-back (Memory (Receive i count register crc)) = ap (λ (x : Incoming). Memory (Receive x count register crc)) (incoming-back i)
 stage-back (Memory (Send o left bits crc)) = ap (λ (x : Outgoing). Memory (Send x left bits crc)) (outgoing-back o)
-stage-back (Memory (Armed (Data a) byte)) = refl
-stage-back (Memory (Armed (Status a) byte)) = refl
+stage-back (Memory (Armed mode t byte)) = simp (what-back 0 mode t byte .1, mode-back 0 mode t byte, target-back 0 mode t byte)
 
 -- ---- states
 

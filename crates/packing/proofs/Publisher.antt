@@ -1,13 +1,15 @@
 -- The publisher's state and its bytes.
 use Prim.Native.Nat.{ℕ, _+_}
-use mathlib.Core.Path.{_≡_, refl, ap, _∙_}
+use mathlib.Core.Path.{_≡_, refl, ap, ap₂, _∙_}
 use mathlib.Core.Bool.{true, false}
 use mathlib.Core.List.{List}
 use lib.ListN.{length}
+use Rattle.terms.specs.declared.write_mode.WriteMode.{WriteMode}
+use Rattle.terms.specs.declared.write_mode.WriteMode.the-variants.{Ordinary, Quick}
 use Rattle.publisher.specs.declared.Stage.{Stage}
 use Rattle.publisher.specs.declared.Stage.the-variants.{Running, Done as Ended, Stopped}
 use Rattle.publisher.specs.declared.Publisher.{Publisher}
-use Rattle.packing.specs.Front.{laid, frontAt, bytesFront, stopFront}
+use Rattle.packing.specs.Front.{laid, frontAt, bytesFront, modeNumber, modeOf, stopFront}
 use Rattle.packing.specs.Publisher.{runningFront, stageFront, frontStage, placed, publisherFront, publisherWith, publisherBytes, publisherOf, isPublisherState, PublisherPacking}
 use Rattle.packing.proofs.Bytes.{whole-front, whole-rest, whole-length, copy-self, copy-equal, fits-back}
 use Rattle.packing.proofs.Refusals.{refusal-back}
@@ -19,9 +21,16 @@ stage-back (Running k false) = refl
 stage-back Ended = refl
 stage-back (Stopped r) = ap Stopped (refusal-back r)
 
+mode-back : (mode : WriteMode) → modeOf (modeNumber mode) ≡ mode
+unfolding modeNumber modeOf
+mode-back Ordinary = refl
+mode-back Quick = refl
+
 front-back : (s : Publisher) → publisherWith (publisherFront s) (s .new) ≡ s
 unfolding publisherWith publisherFront placed frontStage
-front-back s = ap (λ (x : Stage). record { stage = x; last = s .last; target = s .target; used = s .used; new = s .new }) (stage-back (s .stage))
+front-back s =
+    ap₂ (λ (m : WriteMode) (x : Stage). record { mode = m; stage = x; last = s .last; target = s .target; used = s .used; new = s .new })
+    (mode-back (s .mode)) (stage-back (s .stage))
 
 -- of a front that its bytes hold, and of 32 bytes
 pub publisher-back : (s : Publisher) → frontAt (laid (publisherFront s)) ≡ publisherFront s → length (s .new) ≡ 32 → publisherOf (publisherBytes s) ≡ s

@@ -9,6 +9,8 @@ use Rattle.terms.specs.Refusal.{numberOf, valuesOf}
 use Rattle.terms.specs.Told.{Told, accepted, judge, Done, done, unlessRefused}
 use Rattle.terms.specs.declared.refusal.Refusal.{Refusal}
 use Rattle.terms.specs.declared.refusal.Refusal.the-variants.{ImageLength, StateRange, PageNumber, Loop, Outside, Crc16, ReadBack, NoFreePage, RedirectionProtected, BufferLength, Sheet, NoPresence, Crc8, Family}
+use Rattle.terms.specs.declared.write_mode.WriteMode.{WriteMode}
+use Rattle.terms.specs.declared.write_mode.WriteMode.the-variants.{Ordinary, Quick}
 use Rattle.memory.specs.Page.{copied}
 use Rattle.packing.specs.declared.front.Front.{Front}
 
@@ -98,6 +100,15 @@ bufferTold size buffer = judge (eqb (length buffer) size) 10 (accepted done)
 
 unfoldable pub bufferAfter : ℕ → List ℕ → List ℕ → List ℕ
 bufferAfter size whole buffer = unlessRefused (bufferTold size buffer) whole buffer
+
+-- ---- the mode of a write
+
+unfoldable pub modeNumber : WriteMode → ℕ
+modeNumber Ordinary = 0
+modeNumber Quick = 1
+
+unfoldable pub modeOf : ℕ → WriteMode
+modeOf number = cond (eqb number 0) Ordinary Quick
 
 -- ---- a refusal in a stopped state: its number, and the value that it gives back (0 where there is none)
 

@@ -8,13 +8,14 @@ use lib.ListN.{length}
 use Rattle.terms.specs.Bits.{one}
 use Rattle.terms.specs.Told.{Told, accepted, judge, Done, done}
 use Rattle.terms.specs.declared.address.Page.{Page}
+use Rattle.terms.specs.declared.write_mode.WriteMode.{WriteMode}
 use Rattle.publisher.specs.declared.Stage.{Stage}
 use Rattle.publisher.specs.declared.Stage.the-variants.{Running, Done as Ended, Stopped}
 use Rattle.publisher.specs.declared.Publisher.{Publisher}
 use Rattle.packing.specs.declared.front.Front.{Front}
-use Rattle.packing.specs.Front.{laid, frontAt, bytesFront, stopFront, Fits, restAt, isCopy, bufferTold, bufferAfter, refusalOf}
+use Rattle.packing.specs.Front.{laid, frontAt, bytesFront, modeNumber, modeOf, stopFront, Fits, restAt, isCopy, bufferTold, bufferAfter, refusalOf}
 
--- The front: L, T and T's bitmap byte as found (page, other, count), and by kind. 0: running; so many events have been returned (first),
+-- The front: the mode (second: 0 ordinary, 1 quick), L, T and T's bitmap byte as found (page, other, count), and by kind. 0: running; so many events have been returned (first),
 -- and the bits of the present CRC or byte have agreed so far (what: 1) or not (0). 1: done. 2: stopped by a refusal, its number (which) and
 -- its value (value).
 
@@ -45,8 +46,8 @@ frontStage f =
     (cond (eqb (f .kind) 2) (Stopped (refusalOf (f .which) (f .value)))
     (Running (f .first) (eqb (f .what) 1)))
 
-unfoldable pub placed : Front → Page → Page → ℕ → Front
-placed f last target used =
+unfoldable pub placed : Front → WriteMode → Page → Page → ℕ → Front
+placed f mode last target used =
     record {
       kind = f .kind;
       what = f .what;
@@ -56,17 +57,17 @@ placed f last target used =
       page = last .0;
       other = target .0;
       first = f .first;
-      second = f .second;
+      second = modeNumber mode;
       third = f .third;
     }
 
 unfoldable pub publisherFront : Publisher → Front
-publisherFront s = placed (stageFront (s .stage)) (s .last) (s .target) (s .used)
+publisherFront s = placed (stageFront (s .stage)) (s .mode) (s .last) (s .target) (s .used)
 
 -- the state of a front and 32 bytes
 unfoldable pub publisherWith : Front → List ℕ → Publisher
 publisherWith f new =
-    record { stage = frontStage f; last = record { 0 = f .page }; target = record { 0 = f .other }; used = f .count; new = new }
+    record { mode = modeOf (f .second); stage = frontStage f; last = record { 0 = f .page }; target = record { 0 = f .other }; used = f .count; new = new }
 
 unfoldable pub publisherBytes : Publisher → List ℕ
 publisherBytes s = laid (publisherFront s) ++ s .new

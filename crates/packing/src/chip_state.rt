@@ -2,7 +2,7 @@
 ghost use mathlib.Core.Path.{_≡_};
 ghost use mathlib.Core.Bool.{true};
 ghost use Rattle.terms.specs.Told.{judgedTold};
-ghost use Rattle.packing.specs.Chip.{spaceNumber, commandNumber, commandOf, addressed, aimed, targetOf, incomingContent, incomingOf, outgoingContent, outgoingOf, stepNumber, stepOf, contentFront, romFront, memoryFront, stageFront, contentOf, frontStage, chipBytes, chipOf, isChipState, chipJudged, chipPacked, chipBuffer};
+ghost use Rattle.packing.specs.Chip.{writeNumber, commandNumber, commandOf, addressed, aimed, targetOf, targetMode, incomingContent, incomingOf, outgoingContent, outgoingOf, stepNumber, stepOf, contentFront, romFront, memoryFront, stageFront, contentOf, frontStage, chipBytes, chipOf, isChipState, chipJudged, chipPacked, chipBuffer};
 use crate::front;
 use crate::front::Front;
 use chip::event::Stage;
@@ -18,6 +18,7 @@ use terms::address::Space;
 use terms::address::StatusAddress;
 use terms::address::Target;
 use terms::refusal::Judged;
+use terms::write_mode::WriteMode;
 
 // What comes in or goes out: which of its kind it is, and a command or a memory, a byte and an address that it names.
 pub struct Content {
@@ -35,12 +36,19 @@ pub struct Unpacked {
 
 // ---- commands
 
-fn number_of_write(space: Space) -> u8
-    ensures { λ r. ⌜ r ≡ spaceNumber space ⌝ }
+// A memory and a mode in which it is written.
+fn number_of_write(mode: WriteMode, space: Space) -> u8
+    ensures { λ r. ⌜ r ≡ writeNumber mode space ⌝ }
 {
-    match space {
-        Space::Data => 3,
-        Space::Status => 4,
+    match mode {
+        WriteMode::Ordinary => match space {
+            Space::Data => 0,
+            Space::Status => 1,
+        },
+        WriteMode::Quick => match space {
+            Space::Data => 2,
+            Space::Status => 3,
+        },
     }
 }
 
@@ -51,7 +59,7 @@ fn number_of_command(command: Command) -> u8
         Command::ReadMemory => 0,
         Command::ReadStatus => 1,
         Command::ExtendedRead => 2,
-        Command::Write(space) => number_of_write(space),
+        Command::Write(mode, space) => 3 + number_of_write(mode, space),
     }
 }
 
@@ -62,8 +70,10 @@ fn command_of(number: u8) -> Command
         0 => Command::ReadMemory,
         1 => Command::ReadStatus,
         2 => Command::ExtendedRead,
-        3 => Command::Write(Space::Data),
-        _ => Command::Write(Space::Status),
+        3 => Command::Write(WriteMode::Ordinary, Space::Data),
+        4 => Command::Write(WriteMode::Ordinary, Space::Status),
+        5 => Command::Write(WriteMode::Quick, Space::Data),
+        _ => Command::Write(WriteMode::Quick, Space::Status),
     }
 }
 
@@ -80,19 +90,19 @@ fn at_address(what: u8, first: u16) -> Content
     }
 }
 
-fn at_target(what: u8, target: Target, value: u8) -> Content
-    ensures { λ r. ⌜ r ≡ aimed what target value ⌝ }
+fn at_target(what: u8, mode: WriteMode, target: Target, value: u8) -> Content
+    ensures { λ r. ⌜ r ≡ aimed what mode target value ⌝ }
 {
     match target {
         Target::Data(a) => Content {
             what,
-            which: 0,
+            which: number_of_write(mode, Space::Data),
             value,
             first: a.0,
         },
         Target::Status(a) => Content {
             what,
-            which: 1,
+            which: number_of_write(mode, Space::Status),
             value,
             first: a.0,
         },
@@ -102,10 +112,17 @@ fn at_target(what: u8, target: Target, value: u8) -> Content
 fn target_of(which: u8, first: u16) -> Target
     ensures { λ r. ⌜ r ≡ targetOf which first ⌝ }
 {
-    match which {
-        0 => Target::Data(DataAddress(first)),
-        _ => Target::Status(StatusAddress(first)),
+    if which % 2 == 0 {
+        Target::Data(DataAddress(first))
+    } else {
+        Target::Status(StatusAddress(first))
     }
+}
+
+fn mode_of_target(which: u8) -> WriteMode
+    ensures { λ r. ⌜ r ≡ targetMode which ⌝ }
+{
+    front::mode_of((which / 2) as u16)
 }
 
 // ---- what comes in
@@ -127,7 +144,7 @@ fn content_in(incoming: Incoming) -> Content
             value: low,
             first: 0,
         },
-        Incoming::Data(target) => at_target(3, target, 0),
+        Incoming::Data(mode, target) => at_target(3, mode, target, 0),
     }
 }
 
@@ -139,7 +156,7 @@ fn incoming_of(c: Content) -> Incoming
         0 => Incoming::Command,
         1 => Incoming::AddressLow(command_of(c.which)),
         2 => Incoming::AddressHigh(command_of(c.which), c.value),
-        _ => Incoming::Data(target_of(c.which, c.first)),
+        _ => Incoming::Data(mode_of_target(c.which), target_of(c.which, c.first)),
     }
 }
 
@@ -157,8 +174,8 @@ fn content_out(outgoing: Outgoing) -> Content
         Outgoing::RedirectionCrc(a) => at_address(5, a.0),
         Outgoing::PageData(a) => at_address(6, a.0),
         Outgoing::PageCrc(a) => at_address(7, a.0),
-        Outgoing::WriteCrc(target, byte) => at_target(8, target, byte),
-        Outgoing::ReadBack(target) => at_target(9, target, 0),
+        Outgoing::WriteCrc(target, byte) => at_target(8, WriteMode::Ordinary, target, byte),
+        Outgoing::ReadBack(mode, target) => at_target(9, mode, target, 0),
     }
 }
 
@@ -176,7 +193,7 @@ fn outgoing_of(c: Content) -> Outgoing
         6 => Outgoing::PageData(DataAddress(c.first)),
         7 => Outgoing::PageCrc(DataAddress(c.first)),
         8 => Outgoing::WriteCrc(target_of(c.which, c.first), c.value),
-        _ => Outgoing::ReadBack(target_of(c.which, c.first)),
+        _ => Outgoing::ReadBack(mode_of_target(c.which), target_of(c.which, c.first)),
     }
 }
 
@@ -266,9 +283,9 @@ fn front_of_memory(stage: MemoryStage) -> Front
             bits,
             crc,
         ),
-        MemoryStage::Armed(target, byte) => front_of_content(
+        MemoryStage::Armed(mode, target, byte) => front_of_content(
             5,
-            at_target(0, target, byte),
+            at_target(0, mode, target, byte),
             0,
             0,
             0,
@@ -306,7 +323,11 @@ fn stage_of(f: Front) -> Stage
             f.second,
             f.third,
         )),
-        5 => Stage::Memory(MemoryStage::Armed(target_of(f.which, f.first), f.value)),
+        5 => Stage::Memory(MemoryStage::Armed(
+            mode_of_target(f.which),
+            target_of(f.which, f.first),
+            f.value,
+        )),
         _ => Stage::Memory(MemoryStage::Silent),
     }
 }

@@ -4,13 +4,14 @@ ghost use mathlib.Core.List.{_++_};
 ghost use Prim.Native.Nat.{_+_};
 ghost use lib.ListN.{length};
 ghost use Rattle.terms.specs.Told.{judgedTold};
-ghost use Rattle.packing.specs.Front.{low, high, joined, laid, frontAt, bytesFront, restAt, sameBytes, copyTold, bufferTold, bufferAfter, valueOf, refusalOf, stopFront};
+ghost use Rattle.packing.specs.Front.{low, high, joined, laid, frontAt, bytesFront, restAt, sameBytes, copyTold, bufferTold, bufferAfter, modeNumber, modeOf, valueOf, refusalOf, stopFront};
 use memory::image;
 use memory::page;
 use terms::address::Page;
 use terms::refusal;
 use terms::refusal::Judged;
 use terms::refusal::Refusal;
+use terms::write_mode::WriteMode;
 
 pub struct Front {
     pub kind: u8,
@@ -193,6 +194,27 @@ pub fn put(front: Front, rest: &[u8], bytes: &mut [u8]) -> Judged
     }
     fill(front, rest, bytes);
     Judged::Accepted
+}
+
+// ---- the mode of a write
+
+pub fn number_of_mode(mode: WriteMode) -> u8
+    ensures { λ r. ⌜ r ≡ modeNumber mode ⌝ }
+{
+    match mode {
+        WriteMode::Ordinary => 0,
+        WriteMode::Quick => 1,
+    }
+}
+
+pub fn mode_of(number: u16) -> WriteMode
+    ensures { λ r. ⌜ r ≡ modeOf number ⌝ }
+{
+    if number == 0 {
+        WriteMode::Ordinary
+    } else {
+        WriteMode::Quick
+    }
 }
 
 // ---- a refusal in a stopped state

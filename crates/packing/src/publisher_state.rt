@@ -10,6 +10,7 @@ use publisher::Publisher;
 use publisher::Stage;
 use terms::address::Page;
 use terms::refusal::Judged;
+use terms::write_mode::WriteMode;
 
 // The state that bytes hold, with 2 where they hold none.
 pub struct Unpacked {
@@ -62,9 +63,9 @@ fn stage_of(f: Front) -> Stage
     }
 }
 
-// L, T and T's bitmap byte in the front of a stage.
-fn place(f: Front, last: Page, target: Page, used: u8) -> Front
-    ensures { λ r. ⌜ r ≡ placed f last target used ⌝ }
+// The mode, L, T and T's bitmap byte in the front of a stage.
+fn place(f: Front, mode: WriteMode, last: Page, target: Page, used: u8) -> Front
+    ensures { λ r. ⌜ r ≡ placed f mode last target used ⌝ }
 {
     Front {
         kind: f.kind,
@@ -75,7 +76,7 @@ fn place(f: Front, last: Page, target: Page, used: u8) -> Front
         page: last.0,
         other: target.0,
         first: f.first,
-        second: f.second,
+        second: front::number_of_mode(mode) as u16,
         third: f.third,
     }
 }
@@ -83,10 +84,11 @@ fn place(f: Front, last: Page, target: Page, used: u8) -> Front
 fn front_of_state(state: Publisher) -> Front
     ensures { λ r. ⌜ r ≡ publisherFront state ⌝ }
 {
+    let mode = state.mode;
     let stage = state.stage;
     let last = state.last;
     let target = state.target;
-    place(front_of_stage(stage), last, target, state.used)
+    place(front_of_stage(stage), mode, last, target, state.used)
 }
 
 fn state_of(bytes: &[u8]) -> Publisher
@@ -94,6 +96,7 @@ fn state_of(bytes: &[u8]) -> Publisher
 {
     let f = front::front_of(bytes);
     Publisher {
+        mode: front::mode_of(f.second),
         stage: stage_of(f),
         last: Page(f.page),
         target: Page(f.other),

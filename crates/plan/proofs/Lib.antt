@@ -1,3 +1,4 @@
 pub mod At
+pub mod Checks
 pub mod Lengths
 mod Shift

@@ -1,7 +1,6 @@
 -- A bit shifted to its place.
 use Prim.Native.Nat.{ℕ, zero, suc, _-_, _*_, _%_, _^_, _<_}
-use mathlib.Core.Path.{_≡_, refl, ap, _∙_}
-use native.Mathlib.Nat.{mod-eq-of-lt, one-mul}
+use mathlib.Core.Path.{_≡_, refl}
 use native.Mathlib.Omega.{arith}
 
 pub shifted : (k : ℕ) → k < 8 → 255 - 1 * 2 ^ k % 256 ≡ 255 - 2 ^ k

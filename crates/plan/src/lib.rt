@@ -1,17 +1,17 @@
-// The plan of an update: its events in order, each with what its reply has to be. Code gives the step at a position.
+// The plan of an update: its events in order, each with what its reply has to be. The mode is that of all its writes. Code gives the
+// step at a position.
 ghost use mathlib.Core.Path.{_≡_};
-ghost use Prim.Native.Nat.{_-_, _%_, _^_};
+ghost use Prim.Native.Nat.{_-_, _/_, _%_, _^_};
 ghost use lib.ListN.{getD};
 ghost use Rattle.terms.specs.Bits.{bitAt};
-ghost use Rattle.plan.specs.Plan.{resetStep, pulseStep, commandOf, headRegister, backByte, planOf};
-ghost use Rattle.plan.specs.At.{sendAt, crcAt, backAt, armAt, firedAt, byteAt, skipAt, addressAt, commandAt, headAt, writeAt, registerAt, pageDataAt, pageAt, linkAt, restAt};
+ghost use Rattle.plan.specs.Plan.{resetStep, pulseStep, headRegister, backByte, planOf, totalOf};
+ghost use Rattle.plan.specs.At.{armSize, byteSize, writeSize, sendAt, crcAt, backAt, armAt, firedAt, byteAt, skipAt, addressAt, commandAt, headAt, writeAt, registerAt, pageDataAt, pageAt, linkAt, restAt};
 use bus::Event;
 use terms::address::Page;
 use terms::address::Space;
 use terms::bits;
-
-// How many events a plan has.
-pub const TOTAL: u16 = 1222;
+use terms::write_mode;
+use terms::write_mode::WriteMode;
 
 // What the reply to an event has to be: it is not looked at; presence; this bit of a CRC or of a byte read back, which is judged at its
 // last bit.
@@ -26,6 +26,66 @@ pub enum Wanted {
 pub struct Step {
     pub event: Event,
     pub wanted: Wanted,
+}
+
+// ---- how many events there are
+
+pub fn total(mode: WriteMode) -> u16
+    ensures { λ r. ⌜ r ≡ totalOf mode ⌝ }
+{
+    match mode {
+        WriteMode::Ordinary => 1222,
+        WriteMode::Quick => 678,
+    }
+}
+
+// Before the pulse of a byte.
+fn arm_size(mode: WriteMode) -> u16
+    ensures { λ r. ⌜ r ≡ armSize mode ⌝ }
+{
+    match mode {
+        WriteMode::Ordinary => 24,
+        WriteMode::Quick => 8,
+    }
+}
+
+// In a write of one byte.
+fn one_byte_size(mode: WriteMode) -> u16
+    ensures { λ r. ⌜ r ≡ writeSize mode 1 ⌝ }
+{
+    match mode {
+        WriteMode::Ordinary => 66,
+        WriteMode::Quick => 50,
+    }
+}
+
+// In a write of a page.
+fn page_size(mode: WriteMode) -> u16
+    ensures { λ r. ⌜ r ≡ writeSize mode 32 ⌝ }
+{
+    match mode {
+        WriteMode::Ordinary => 1089,
+        WriteMode::Quick => 577,
+    }
+}
+
+// The number of the byte to which event i of a run of bytes belongs, and the event's place in it.
+fn byte_number(mode: WriteMode, i: u16) -> u16
+    ensures { λ r. ⌜ r ≡ i / byteSize mode ⌝ }
+{
+    match mode {
+        WriteMode::Ordinary => i / 33,
+        WriteMode::Quick => i / 17,
+    }
+}
+
+fn byte_place(mode: WriteMode, i: u16) -> u16
+    ensures { λ r. ⌜ r ≡ i % byteSize mode ⌝ }
+{
+    match mode {
+        WriteMode::Ordinary => i % 33,
+        WriteMode::Quick => i % 17,
+    }
 }
 
 // ---- a byte
@@ -99,7 +159,7 @@ fn back_at(v: u8, i: u16) -> Step
     }
 }
 
-// A byte and its CRC.
+// A byte and, where a CRC is read, its CRC.
 fn arm_at(register: u16, byte: u8, i: u16) -> Step
     ensures { λ r. ⌜ r ≡ armAt register byte i ⌝ }
 {
@@ -128,13 +188,14 @@ fn fired_at(old: u8, byte: u8, i: u16) -> Step
     }
 }
 
-fn byte_at(register: u16, old: u8, byte: u8, i: u16) -> Step
-    ensures { λ r. ⌜ r ≡ byteAt register old byte i ⌝ }
+fn byte_at(mode: WriteMode, register: u16, old: u8, byte: u8, i: u16) -> Step
+    ensures { λ r. ⌜ r ≡ byteAt mode register old byte i ⌝ }
 {
-    if i < 24 {
+    let armed = arm_size(mode);
+    if i < armed {
         arm_at(register, byte, i)
     } else {
-        fired_at(old, byte, i - 24)
+        fired_at(old, byte, i - armed)
     }
 }
 
@@ -171,54 +232,44 @@ fn command_at(command: u8, a: u16, i: u16) -> Step
     }
 }
 
-// Write Memory or Write Status.
-fn command(space: Space) -> u8
-    ensures { λ r. ⌜ r ≡ commandOf space ⌝ }
-{
-    match space {
-        Space::Data => 0x0F,
-        Space::Status => 0x55,
-    }
-}
-
-fn head_at(space: Space, a: u16, i: u16) -> Step
-    ensures { λ r. ⌜ r ≡ headAt space a i ⌝ }
+fn head_at(mode: WriteMode, space: Space, a: u16, i: u16) -> Step
+    ensures { λ r. ⌜ r ≡ headAt mode space a i ⌝ }
 {
     if i < 9 {
         skip_at(i)
     } else {
-        command_at(command(space), a, i - 9)
+        command_at(write_mode::command(mode, space), a, i - 9)
     }
 }
 
 // The CRC register after command and address.
-fn head_register(space: Space, a: u16) -> u16
-    ensures { λ r. ⌜ r ≡ headRegister space a ⌝ }
+fn head_register(mode: WriteMode, space: Space, a: u16) -> u16
+    ensures { λ r. ⌜ r ≡ headRegister mode space a ⌝ }
 {
-    let c = crc::crc16::byte(0, command(space));
+    let c = crc::crc16::byte(0, write_mode::command(mode, space));
     let l = crc::crc16::byte(c, (a & 0xFF) as u8);
     crc::crc16::byte(l, (a >> 8) as u8)
 }
 
-fn write_at(space: Space, a: u16, old: u8, byte: u8, i: u16) -> Step
-    ensures { λ r. ⌜ r ≡ writeAt space a old byte i ⌝ }
+fn write_at(mode: WriteMode, space: Space, a: u16, old: u8, byte: u8, i: u16) -> Step
+    ensures { λ r. ⌜ r ≡ writeAt mode space a old byte i ⌝ }
 {
     if i < 33 {
-        head_at(space, a, i)
+        head_at(mode, space, a, i)
     } else {
-        byte_at(head_register(space, a), old, byte, i - 33)
+        byte_at(mode, head_register(mode, space, a), old, byte, i - 33)
     }
 }
 
 // ---- the three writes and the closing reset
 
 // The register before byte number j of a page: that of command and address, and then the raised address, loaded.
-fn register_at(t: Page, j: u16) -> u16
-    ensures { λ r. ⌜ r ≡ registerAt (t .0) j ⌝ }
+fn register_at(mode: WriteMode, t: Page, j: u16) -> u16
+    ensures { λ r. ⌜ r ≡ registerAt mode (t .0) j ⌝ }
 {
     let a = 32 * (t.0 as u16);
     if j < 1 {
-        head_register(Space::Data, a)
+        head_register(mode, Space::Data, a)
     } else {
         a + j % 2048
     }
@@ -231,40 +282,47 @@ fn new_byte(new: [u8; 32], j: u16) -> u8
     if at < 32 { new[at] } else { 0 }
 }
 
-fn page_data_at(t: Page, new: [u8; 32], i: u16) -> Step
-    ensures { λ r. ⌜ r ≡ pageDataAt (t .0) new i ⌝ }
+fn page_data_at(mode: WriteMode, t: Page, new: [u8; 32], i: u16) -> Step
+    ensures { λ r. ⌜ r ≡ pageDataAt mode (t .0) new i ⌝ }
 {
-    let j = i / 33;
-    byte_at(register_at(t, j), 255, new_byte(new, j), i % 33)
+    let j = byte_number(mode, i);
+    byte_at(
+        mode,
+        register_at(mode, t, j),
+        255,
+        new_byte(new, j),
+        byte_place(mode, i),
+    )
 }
 
-fn page_at(t: Page, new: [u8; 32], i: u16) -> Step
-    ensures { λ r. ⌜ r ≡ pageAt (t .0) new i ⌝ }
+fn page_at(mode: WriteMode, t: Page, new: [u8; 32], i: u16) -> Step
+    ensures { λ r. ⌜ r ≡ pageAt mode (t .0) new i ⌝ }
 {
     if i < 33 {
-        head_at(Space::Data, 32 * (t.0 as u16), i)
+        head_at(mode, Space::Data, 32 * (t.0 as u16), i)
     } else {
-        page_data_at(t, new, i - 33)
+        page_data_at(mode, t, new, i - 33)
     }
 }
 
-fn link_at(l: Page, t: Page, i: u16) -> Step
-    ensures { λ r. ⌜ r ≡ linkAt (l .0) (t .0) i ⌝ }
+fn link_at(mode: WriteMode, l: Page, t: Page, i: u16) -> Step
+    ensures { λ r. ⌜ r ≡ linkAt mode (l .0) (t .0) i ⌝ }
 {
-    if i < 66 {
-        write_at(Space::Status, 0x100 + l.0 as u16, 255, 255 - t.0, i)
+    if i < one_byte_size(mode) {
+        write_at(mode, Space::Status, 0x100 + l.0 as u16, 255, 255 - t.0, i)
     } else {
         reset_step()
     }
 }
 
-fn rest_at(l: Page, t: Page, new: [u8; 32], i: u16) -> Step
-    ensures { λ r. ⌜ r ≡ restAt (l .0) (t .0) new i ⌝ }
+fn rest_at(mode: WriteMode, l: Page, t: Page, new: [u8; 32], i: u16) -> Step
+    ensures { λ r. ⌜ r ≡ restAt mode (l .0) (t .0) new i ⌝ }
 {
-    if i < 1089 {
-        page_at(t, new, i)
+    let page = page_size(mode);
+    if i < page {
+        page_at(mode, t, new, i)
     } else {
-        link_at(l, t, i - 1089)
+        link_at(mode, l, t, i - page)
     }
 }
 
@@ -276,11 +334,13 @@ fn clearing(t: Page) -> u8
 }
 
 // Event number k, counted from 0, of the plan that puts the bytes new into page t in the place of page l; used is t's bitmap byte.
-pub fn step_at(l: Page, t: Page, used: u8, new: [u8; 32], k: u16) -> Step
-    ensures { λ r. ⌜ r ≡ getD (planOf (l .0) (t .0) used new) k resetStep ⌝ }
+pub fn step_at(mode: WriteMode, l: Page, t: Page, used: u8, new: [u8; 32], k: u16) -> Step
+    ensures { λ r. ⌜ r ≡ getD (planOf mode (l .0) (t .0) used new) k resetStep ⌝ }
 {
-    if k < 66 {
+    let first = one_byte_size(mode);
+    if k < first {
         write_at(
+            mode,
             Space::Status,
             0x40 + (t.0 >> 3) as u16,
             used,
@@ -288,6 +348,6 @@ pub fn step_at(l: Page, t: Page, used: u8, new: [u8; 32], k: u16) -> Step
             k,
         )
     } else {
-        rest_at(l, t, new, k - 66)
+        rest_at(mode, l, t, new, k - first)
     }
 }

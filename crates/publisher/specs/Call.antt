@@ -1,4 +1,4 @@
--- The publisher's later calls, over a plan with so many events and the page count n.
+-- The publisher's later calls, over the page count n.
 use Prim.Native.Nat.{ℕ, _+_, _-_}
 use mathlib.Core.Bool.{Bool, true, false, not, cond, _&&_}
 use mathlib.Core.List.{List, [], _∷_}
@@ -8,12 +8,14 @@ use Rattle.terms.specs.Bits.{same}
 use Rattle.terms.specs.Told.{Told, accepted, refusing, judge}
 use Rattle.terms.specs.declared.refusal.Refusal.{Refusal}
 use Rattle.terms.specs.declared.refusal.Refusal.the-variants.{ImageLength, StateRange, PageNumber, Loop, Outside, Crc16, ReadBack, NoFreePage, RedirectionProtected, BufferLength, Sheet, NoPresence, Crc8, Family}
+use Rattle.terms.specs.declared.write_mode.WriteMode.{WriteMode}
+use Rattle.terms.specs.declared.write_mode.WriteMode.the-variants.{Ordinary, Quick}
 use Rattle.memory.specs.Layout.{isPage}
 use Rattle.master.specs.Next.{Next, send, tells}
 use Rattle.plan.specs.declared.Wanted.{Wanted}
 use Rattle.plan.specs.declared.Wanted.the-variants.{Anything, Presence, Bit, LastCrcBit, LastBackBit}
 use Rattle.plan.specs.declared.Step.{Step}
-use Rattle.plan.specs.Plan.{resetStep, planOf}
+use Rattle.plan.specs.Plan.{resetStep, planOf, totalOf}
 use Rattle.publisher.specs.declared.Judged.{Judged}
 use Rattle.publisher.specs.declared.Judged.the-variants.{On, Stop}
 use Rattle.publisher.specs.declared.Stage.{Stage}
@@ -23,9 +25,12 @@ use Rattle.publisher.specs.declared.Answer.{Answer}
 use Rattle.publisher.specs.declared.Answer.the-variants.{Send, Published, Refused}
 use Rattle.publisher.specs.declared.Stepped.{Stepped}
 
--- the plan of a state
+-- the plan of a state, and how many events it has
 abbrev pub planIn : Publisher → List Step
-planIn s = planOf (s .last .0) (s .target .0) (s .used) (s .new)
+planIn s = planOf (s .mode) (s .last .0) (s .target .0) (s .used) (s .new)
+
+abbrev pub totalIn : Publisher → ℕ
+totalIn s = totalOf (s .mode)
 
 -- ---- a reply against what it has to be
 
@@ -43,7 +48,7 @@ judgedOf (Bit b) good reply = On (good && same b reply)
 judgedOf (LastCrcBit b) good reply = judgedLast (good && same b reply) Crc16
 judgedOf (LastBackBit b) good reply = judgedLast (good && same b reply) ReadBack
 
--- ---- a call
+-- ---- a call, by a plan with so many events
 
 -- event number k of a plan, counted from 0
 unfoldable pub stepOf : List Step → ℕ → Step
@@ -54,7 +59,7 @@ unfoldable pub wantedOf : List Step → ℕ → Wanted
 wantedOf plan k = cond (eqb k 0) Anything (stepOf plan (k - 1) .wanted)
 
 abbrev pub atStage : Publisher → Stage → Publisher
-atStage s stage = record { stage = stage; last = s .last; target = s .target; used = s .used; new = s .new }
+atStage s stage = record { mode = s .mode; stage = stage; last = s .last; target = s .target; used = s .used; new = s .new }
 
 -- the next event, or the end
 unfoldable pub goneOn : ℕ → List Step → Publisher → ℕ → Bool → Stepped
@@ -74,30 +79,34 @@ turnOf total plan s (Stopped r) reply = record { answer = Refused r; state = s }
 
 -- ---- ranges
 
--- the refusals that stop a publisher: all but 2, 12, 14, 15
-unfoldable pub isStop : ℕ → Refusal → Bool
-isStop n ImageLength = true
-isStop n StateRange = false
-isStop n PageNumber = true
-isStop n Loop = true
-isStop n (Outside x) = not (isPage n x)
-isStop n Crc16 = true
-isStop n ReadBack = true
-isStop n NoFreePage = true
-isStop n (RedirectionProtected l) = isPage n (l .0)
-isStop n BufferLength = true
-isStop n Sheet = false
-isStop n NoPresence = true
-isStop n Crc8 = false
-isStop n Family = false
+unfoldable pub readsCrc : WriteMode → Bool
+readsCrc Ordinary = true
+readsCrc Quick = false
 
-unfoldable pub stageInRange : ℕ → ℕ → Stage → Bool
-stageInRange total n (Running k good) = leb k total
-stageInRange total n Done = true
-stageInRange total n (Stopped r) = isStop n r
+-- the refusals that stop a publisher: all but 2, 12, 14, 15; and in the quick mode, which reads no CRC, not 6
+unfoldable pub isStop : WriteMode → ℕ → Refusal → Bool
+isStop mode n ImageLength = true
+isStop mode n StateRange = false
+isStop mode n PageNumber = true
+isStop mode n Loop = true
+isStop mode n (Outside x) = not (isPage n x)
+isStop mode n Crc16 = readsCrc mode
+isStop mode n ReadBack = true
+isStop mode n NoFreePage = true
+isStop mode n (RedirectionProtected l) = isPage n (l .0)
+isStop mode n BufferLength = true
+isStop mode n Sheet = false
+isStop mode n NoPresence = true
+isStop mode n Crc8 = false
+isStop mode n Family = false
 
-unfoldable pub inRange : ℕ → ℕ → Publisher → Bool
-inRange total n s = cond (isPage n (s .last .0)) (cond (isPage n (s .target .0)) (stageInRange total n (s .stage)) false) false
+unfoldable pub stageInRange : WriteMode → ℕ → Stage → Bool
+stageInRange mode n (Running k good) = leb k (totalOf mode)
+stageInRange mode n Done = true
+stageInRange mode n (Stopped r) = isStop mode n r
+
+unfoldable pub inRange : ℕ → Publisher → Bool
+inRange n s = cond (isPage n (s .last .0)) (cond (isPage n (s .target .0)) (stageInRange (s .mode) n (s .stage)) false) false
 
 -- ---- the entry
 
@@ -108,8 +117,8 @@ turnTold (Published l t) = accepted (tells (l .0 ∷ t .0 ∷ []))
 turnTold (Refused r) = refusing r
 
 -- 2, or the turn's answer
-unfoldable pub callAnswer : ℕ → ℕ → List Step → Publisher → Bool → Told Next
-callAnswer total n plan s reply = judge (inRange total n s) 2 (turnTold (turnOf total plan s (s .stage) reply .answer))
+unfoldable pub callAnswer : ℕ → Publisher → Bool → Told Next
+callAnswer n s reply = judge (inRange n s) 2 (turnTold (turnOf (totalIn s) (planIn s) s (s .stage) reply .answer))
 
-unfoldable pub callState : ℕ → ℕ → List Step → Publisher → Bool → Publisher
-callState total n plan s reply = cond (inRange total n s) (turnOf total plan s (s .stage) reply .state) s
+unfoldable pub callState : ℕ → Publisher → Bool → Publisher
+callState n s reply = cond (inRange n s) (turnOf (totalIn s) (planIn s) s (s .stage) reply .state) s

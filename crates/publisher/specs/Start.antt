@@ -8,6 +8,7 @@ use Rattle.terms.specs.Told.{Told, accepted, refusing}
 use Rattle.terms.specs.declared.address.Page.{Page}
 use Rattle.terms.specs.declared.verdict.Verdict.{Verdict}
 use Rattle.terms.specs.declared.verdict.Verdict.the-variants.{Final, Loop, Outside}
+use Rattle.terms.specs.declared.write_mode.WriteMode.{WriteMode}
 use Rattle.terms.specs.declared.refusal.Refusal.{Refusal}
 use Rattle.terms.specs.declared.refusal.Refusal.the-variants.{ImageLength, PageNumber, Loop as LoopRefusal, Outside as OutsideRefusal, NoFreePage, RedirectionProtected, BufferLength}
 use Rattle.memory.specs.declared.layout.Field.the-variants.{RedirectionProtection}
@@ -60,17 +61,17 @@ choiceOf n img new p =
 unfoldable pub bitmapByte : ℕ → List ℕ → ℕ → ℕ
 bitmapByte n img t = getD img (statusIndex n (0x40 + t / 8)) 0
 
-unfoldable pub ready : ℕ → List ℕ → List ℕ → Page → Page → Publisher
-ready n img new l t =
-    record { stage = Running 0 true; last = l; target = t; used = bitmapByte n img (t .0); new = copied new (replicate 32 0) }
+unfoldable pub ready : ℕ → WriteMode → List ℕ → List ℕ → Page → Page → Publisher
+ready n mode img new l t =
+    record { mode = mode; stage = Running 0 true; last = l; target = t; used = bitmapByte n img (t .0); new = copied new (replicate 32 0) }
 
 -- a refused start's state repeats the refusal
-unfoldable pub stoppedBy : Refusal → Publisher
-stoppedBy r = record { stage = Stopped r; last = record { 0 = 0 }; target = record { 0 = 0 }; used = 0; new = replicate 32 0 }
+unfoldable pub stoppedBy : WriteMode → Refusal → Publisher
+stoppedBy mode r = record { mode = mode; stage = Stopped r; last = record { 0 = 0 }; target = record { 0 = 0 }; used = 0; new = replicate 32 0 }
 
-unfoldable pub choiceState : ℕ → List ℕ → List ℕ → Choice → Publisher
-choiceState n img new (Refused r) = stoppedBy r
-choiceState n img new (Accepted l t) = ready n img new l t
+unfoldable pub choiceState : ℕ → WriteMode → List ℕ → List ℕ → Choice → Publisher
+choiceState n mode img new (Refused r) = stoppedBy mode r
+choiceState n mode img new (Accepted l t) = ready n mode img new l t
 
 -- ---- the entry
 
@@ -82,8 +83,9 @@ abbrev pub choiceTold : Choice → Told (List ℕ)
 choiceTold (Refused r) = refusing r
 choiceTold (Accepted l t) = accepted []
 
+-- the answer is the same in both modes
 abbrev pub startAnswer : ℕ → List ℕ → List ℕ → ℕ → Told (List ℕ)
 startAnswer n img new p = choiceTold (choiceOf n img new p)
 
-abbrev pub startState : ℕ → List ℕ → List ℕ → ℕ → Publisher
-startState n img new p = choiceState n img new (choiceOf n img new p)
+abbrev pub startState : ℕ → WriteMode → List ℕ → List ℕ → ℕ → Publisher
+startState n mode img new p = choiceState n mode img new (choiceOf n img new p)

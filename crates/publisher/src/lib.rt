@@ -5,9 +5,8 @@ ghost use mathlib.Core.Path.{_≡_};
 ghost use Rattle.memory.specs.Layout.{pageCount};
 ghost use Rattle.memory.specs.Page.{copied};
 ghost use lib.ListN.{replicate};
-ghost use Rattle.plan.specs.Plan.{total};
 ghost use Rattle.publisher.specs.Start.{choiceFree, choiceFinal, choiceWalked, choiceOf, bitmapByte, ready, stoppedBy, startTold, startAnswer, startState};
-ghost use Rattle.publisher.specs.Call.{planIn, stepOf, wantedOf, judgedLast, judgedPresence, judgedOf, atStage, goneOn, judgedTurn, turnOf, isStop, stageInRange, inRange, turnTold, callAnswer, callState};
+ghost use Rattle.publisher.specs.Call.{planIn, totalIn, stepOf, wantedOf, judgedLast, judgedPresence, judgedOf, atStage, goneOn, judgedTurn, turnOf, readsCrc, isStop, stageInRange, inRange, turnTold, callAnswer, callState};
 use bus::Event;
 use chain::free::Found;
 use memory::image;
@@ -20,6 +19,7 @@ use terms::address::StatusAddress;
 use terms::bits;
 use terms::refusal::Refusal;
 use terms::verdict::Verdict;
+use terms::write_mode::WriteMode;
 
 // Running: so many events have been returned; the bits of the present CRC or byte have agreed so far.
 pub enum Stage {
@@ -28,8 +28,9 @@ pub enum Stage {
     Stopped(Refusal),
 }
 
-// L, the page that is superseded; T, the page that takes its place; T's bitmap byte as found; the new bytes.
+// The mode of all writes; L, the page that is superseded; T, the page that takes its place; T's bitmap byte as found; the new bytes.
 pub struct Publisher {
+    pub mode: WriteMode,
     pub stage: Stage,
     pub last: Page,
     pub target: Page,
@@ -128,12 +129,13 @@ fn kept(new: &[u8]) -> [u8; 32]
     bytes
 }
 
-fn make_ready(image: &[u8], last: Page, new: &[u8], l: Page, t: Page) -> Publisher
-    ensures { λ r. ⌜ r ≡ ready (pageCount last) (now (image .entry)) (now (new .entry)) l t ⌝ }
+fn make_ready(image: &[u8], last: Page, mode: WriteMode, new: &[u8], l: Page, t: Page) -> Publisher
+    ensures { λ r. ⌜ r ≡ ready (pageCount last) mode (now (image .entry)) (now (new .entry)) l t ⌝ }
 {
     let used = bitmap_byte(image, last, t);
     let bytes = kept(new);
     Publisher {
+        mode,
         stage: Stage::Running(0, true),
         last: l,
         target: t,
@@ -142,10 +144,11 @@ fn make_ready(image: &[u8], last: Page, new: &[u8], l: Page, t: Page) -> Publish
     }
 }
 
-fn make_stopped(refusal: Refusal) -> Publisher
-    ensures { λ r. ⌜ r ≡ stoppedBy refusal ⌝ }
+fn make_stopped(mode: WriteMode, refusal: Refusal) -> Publisher
+    ensures { λ r. ⌜ r ≡ stoppedBy mode refusal ⌝ }
 {
     Publisher {
+        mode,
         stage: Stage::Stopped(refusal),
         last: Page(0),
         target: Page(0),
@@ -155,19 +158,19 @@ fn make_stopped(refusal: Refusal) -> Publisher
 }
 
 // The start reads the image and the new bytes, writes neither, and gives a state and no event.
-// Refused: 1, 10, 3, 4, 5, 9, 8; the state then repeats that.
-pub fn start(image: &[u8], new: &[u8], page: Page) -> Started
+// Refused, in both modes: 1, 10, 3, 4, 5, 9, 8; the state then repeats that.
+pub fn start(mode: WriteMode, image: &[u8], new: &[u8], page: Page) -> Started
     ensures answer { λ r. ⌜ startTold (r .answer) ≡ startAnswer 64 (now (image .entry)) (now (new .entry)) (page .0) ⌝ }
-    ensures state { λ r. ⌜ r .state ≡ startState 64 (now (image .entry)) (now (new .entry)) (page .0) ⌝ }
+    ensures state { λ r. ⌜ r .state ≡ startState 64 mode (now (image .entry)) (now (new .entry)) (page .0) ⌝ }
 {
     match choose(image, Page(layout::DS2505), new, page) {
         Choice::Refused(refusal) => Started {
             answer: StartAnswer::Refused(refusal),
-            state: make_stopped(refusal),
+            state: make_stopped(mode, refusal),
         },
         Choice::Accepted(l, t) => Started {
             answer: StartAnswer::Ready,
-            state: make_ready(image, Page(layout::DS2505), new, l, t),
+            state: make_ready(image, Page(layout::DS2505), mode, new, l, t),
         },
     }
 }
@@ -222,10 +225,11 @@ fn judge(wanted: Wanted, good: bool, reply: bool) -> Judged
 fn step_of(s: Publisher, k: u16) -> Step
     ensures { λ r. ⌜ r ≡ stepOf (planIn s) k ⌝ }
 {
+    let mode = s.mode;
     let l = s.last;
     let t = s.target;
     let new = s.new;
-    plan::step_at(l, t, s.used, new, k)
+    plan::step_at(mode, l, t, s.used, new, k)
 }
 
 // What the reply that comes after k events has to be.
@@ -243,10 +247,12 @@ fn wanted_of(s: Publisher, k: u16) -> Wanted
 fn at_stage(s: Publisher, stage: Stage) -> Publisher
     ensures { λ r. ⌜ r ≡ atStage s stage ⌝ }
 {
+    let mode = s.mode;
     let last = s.last;
     let target = s.target;
     let new = s.new;
     Publisher {
+        mode,
         stage,
         last,
         target,
@@ -264,9 +270,10 @@ fn published(s: Publisher) -> Answer
 }
 
 fn go_on(s: Publisher, k: u16, good: bool) -> Stepped
-    ensures { λ r. ⌜ r ≡ goneOn total (planIn s) s k good ⌝ }
+    ensures { λ r. ⌜ r ≡ goneOn (totalIn s) (planIn s) s k good ⌝ }
 {
-    if k < plan::TOTAL {
+    let mode = s.mode;
+    if k < plan::total(mode) {
         let step = step_of(s, k);
         let event = step.event;
         Stepped {
@@ -282,7 +289,7 @@ fn go_on(s: Publisher, k: u16, good: bool) -> Stepped
 }
 
 fn after_judging(s: Publisher, k: u16, judged: Judged) -> Stepped
-    ensures { λ r. ⌜ r ≡ judgedTurn total (planIn s) s k judged ⌝ }
+    ensures { λ r. ⌜ r ≡ judgedTurn (totalIn s) (planIn s) s k judged ⌝ }
 {
     match judged {
         Judged::On(good) => go_on(s, k, good),
@@ -294,7 +301,7 @@ fn after_judging(s: Publisher, k: u16, judged: Judged) -> Stepped
 }
 
 fn turn(s: Publisher, stage: Stage, reply: bool) -> Stepped
-    ensures { λ r. ⌜ r ≡ turnOf total (planIn s) s stage reply ⌝ }
+    ensures { λ r. ⌜ r ≡ turnOf (totalIn s) (planIn s) s stage reply ⌝ }
 {
     match stage {
         Stage::Running(k, good) => after_judging(s, k, judge(wanted_of(s, k), good, reply)),
@@ -311,9 +318,19 @@ fn turn(s: Publisher, stage: Stage, reply: bool) -> Stepped
 
 // ---- ranges
 
+// A mode in which CRCs are read.
+fn reads_crc(mode: WriteMode) -> bool
+    ensures { λ r. ⌜ r ≡ readsCrc mode ⌝ }
+{
+    match mode {
+        WriteMode::Ordinary => true,
+        WriteMode::Quick => false,
+    }
+}
+
 // A refusal that stops a publisher.
-fn is_stop(last: Page, refusal: Refusal) -> bool
-    ensures { λ r. ⌜ r ≡ isStop (pageCount last) refusal ⌝ }
+fn is_stop(mode: WriteMode, last: Page, refusal: Refusal) -> bool
+    ensures { λ r. ⌜ r ≡ isStop mode (pageCount last) refusal ⌝ }
 {
     match refusal {
         Refusal::ImageLength => true,
@@ -321,7 +338,7 @@ fn is_stop(last: Page, refusal: Refusal) -> bool
         Refusal::PageNumber => true,
         Refusal::Loop => true,
         Refusal::Outside(x) => !layout::is_page(last, Page(x)),
-        Refusal::Crc16 => true,
+        Refusal::Crc16 => reads_crc(mode),
         Refusal::ReadBack => true,
         Refusal::NoFreePage => true,
         Refusal::RedirectionProtected(l) => layout::is_page(last, l),
@@ -333,19 +350,20 @@ fn is_stop(last: Page, refusal: Refusal) -> bool
     }
 }
 
-fn stage_in_range(last: Page, stage: Stage) -> bool
-    ensures { λ r. ⌜ r ≡ stageInRange total (pageCount last) stage ⌝ }
+fn stage_in_range(mode: WriteMode, last: Page, stage: Stage) -> bool
+    ensures { λ r. ⌜ r ≡ stageInRange mode (pageCount last) stage ⌝ }
 {
     match stage {
-        Stage::Running(k, _) => k <= plan::TOTAL,
+        Stage::Running(k, _) => k <= plan::total(mode),
         Stage::Done => true,
-        Stage::Stopped(refusal) => is_stop(last, refusal),
+        Stage::Stopped(refusal) => is_stop(mode, last, refusal),
     }
 }
 
 fn in_range(last: Page, s: Publisher) -> bool
-    ensures { λ r. ⌜ r ≡ inRange total (pageCount last) s ⌝ }
+    ensures { λ r. ⌜ r ≡ inRange (pageCount last) s ⌝ }
 {
+    let mode = s.mode;
     let stage = s.stage;
     let l = s.last;
     let t = s.target;
@@ -355,14 +373,14 @@ fn in_range(last: Page, s: Publisher) -> bool
     if !layout::is_page(last, t) {
         return false;
     }
-    stage_in_range(last, stage)
+    stage_in_range(mode, last, stage)
 }
 
 // A later call takes the reply to the last event and gives the next one, or L and T, or a refusal; an end repeats when asked again.
-// Refused: 2, with the same state; 13, 6, 7, with the stopped state.
+// Refused: 2, with the same state; 13, 6 (in the ordinary mode only), 7, with the stopped state.
 pub fn call(state: Publisher, reply: bool) -> Stepped
-    ensures answer { λ r. ⌜ turnTold (r .answer) ≡ callAnswer total 64 (planIn state) state reply ⌝ }
-    ensures state { λ r. ⌜ r .state ≡ callState total 64 (planIn state) state reply ⌝ }
+    ensures answer { λ r. ⌜ turnTold (r .answer) ≡ callAnswer 64 state reply ⌝ }
+    ensures state { λ r. ⌜ r .state ≡ callState 64 state reply ⌝ }
 {
     if !in_range(Page(layout::DS2505), state) {
         return Stepped {

@@ -12,6 +12,7 @@ use Rattle.terms.specs.Told.{Told, accepted, refused}
 use Rattle.terms.specs.Refusal.{numberOf, valuesOf}
 use Rattle.terms.specs.declared.address.Page.{Page}
 use Rattle.terms.specs.declared.verdict.Verdict.the-variants.{Final}
+use Rattle.terms.specs.declared.write_mode.WriteMode.{WriteMode}
 use Rattle.bus.specs.declared.Event.{Event}
 use Rattle.bus.specs.declared.Event.the-variants.{Reset, PowerLoss}
 use Rattle.chain.specs.Walk.{final, walkOf}
@@ -19,7 +20,7 @@ use Rattle.memory.proofs.Pages.{copied-same}
 use Rattle.update_laws.specs.Update.{readOf, moved, movedBy}
 use Rattle.master.specs.Next.{Next}
 use Rattle.plan.specs.declared.Step.{Step}
-use Rattle.plan.specs.Plan.{planOf, total}
+use Rattle.plan.specs.Plan.{planOf, totalOf, shownOf}
 use Rattle.publisher.specs.declared.Choice.{Choice}
 use Rattle.publisher.specs.declared.Choice.the-variants.{Refused, Accepted}
 use Rattle.publisher.specs.declared.Stage.the-variants.{Running}
@@ -30,7 +31,7 @@ use Rattle.chip.specs.Run.{Chip, run}
 use Rattle.chip_laws.specs.Session.{Ready, Bytes}
 use Rattle.chip_laws.proofs.Runs.{run-append}
 use Rattle.chip_laws.proofs.States.{image-kept}
-use Rattle.plan_laws.specs.Plan.{stepEvents, shown, Fits, Accepts, planFor, PlanLaws}
+use Rattle.plan_laws.specs.Plan.{stepEvents, Fits, Accepts, planFor, PlanLaws}
 use Rattle.plan_laws.proofs.Starts.{chosen-means}
 use Rattle.plan_laws.proofs.Laws.{plan-laws}
 use Rattle.plan_laws.proofs.Stretches.{events-length}
@@ -52,37 +53,39 @@ moved-final : (n : ℕ) (img new : List ℕ) (p : ℕ) (l : Page) (t hops : ℕ)
 moved-final n img new p l t hops e =
     ap (λ v. movedBy (l .0) t new (readOf n img p) v) e ∙ simp (eq-eqb (l .0) (l .0) refl)
 
-module _ (n : ℕ) (whole : n % 8 ≡ 0) (some : 0 < n) (low : n ≤ 256) (c : Chip) (new : List ℕ) (p : ℕ) (replies : List Bool) where
+module _ (n : ℕ) (whole : n % 8 ≡ 0) (some : 0 < n) (low : n ≤ 256) (mode : WriteMode) (c : Chip) (new : List ℕ) (p : ℕ) (replies : List Bool) where
   module _ (l t : Page) (ok : Accepts n c new p l t) where
     abbrev state : Publisher
-    state = ready n (c .image) new l t
+    state = ready n mode (c .image) new l t
 
-    laws : PlanLaws n c new p l t
-    laws = plan-laws n c new p l t whole low ok
+    laws : PlanLaws n mode c new p l t
+    laws = plan-laws n mode c new p l t whole low ok
 
-    same : planIn state ≡ planFor n c new l t
+    same : planIn state ≡ planFor n mode c new l t
     unfolding ready
-    same = ap (planOf (l .0) (t .0) (bitmapByte n (c .image) (t .0))) (copied-same new (replicate 32 0) (laws .long))
+    same = ap (planOf mode (l .0) (t .0) (bitmapByte n (c .image) (t .0))) (copied-same new (replicate 32 0) (laws .long))
 
-    within : inRange total n state ≡ true
+    within : inRange n state ≡ true
     unfolding choiceState
-    within = rw (ok .chosen) at (call-laws n some .starts (c .image) new p)
+    within = rw (ok .chosen) at (call-laws n some .starts mode (c .image) new p)
 
     running : state .stage ≡ Running 0 true
     unfolding ready
     running = refl
 
-    size : length (planIn state) ≡ total
+    size : length (planIn state) ≡ totalOf mode
+    unfolding ready
     size = ap length same ∙ laws .counted
 
     first-of : Begins (stepEvents (planIn state)) (returned n state replies)
+    unfolding ready
     first-of = call-laws n some .ordered state replies running within size
 
     reads : (m : ℕ) (cut : Bool) → m ≤ length (returned n state replies) → (q : ℕ) → q < n → (q ≡ t .0 → ⊥)
         → readAfter n c (returned n state replies) m cut q
-        ≡ cond (ltb m shown) (readOf n (c .image) q) (moved (l .0) (t .0) new (readOf n (c .image) q))
+        ≡ cond (ltb m (shownOf mode)) (readOf n (c .image) q) (moved (l .0) (t .0) new (readOf n (c .image) q))
     reads m cut le q lt d =
-        let takes : take m (returned n state replies) ≡ take m (stepEvents (planFor n c new l t)) =
+        let takes : take m (returned n state replies) ≡ take m (stepEvents (planFor n mode c new l t)) =
         sym (take-append-le m (returned n state replies) (first-of .rest) le) ∙ ap (take m) (sym (first-of .is) ∙ ap stepEvents same) in
         ap (λ (img : List ℕ). readOf n img q) (cut-image n c (returned n state replies) m cut ∙ ap (λ (es : List Event). run n c es .image) takes)
         ∙ laws .reads m q lt d
@@ -90,7 +93,7 @@ module _ (n : ℕ) (whole : n % 8 ≡ 0) (some : 0 < n) (low : n ≤ 256) (c : C
     below : p < n
     below = chosen-means l t n (c .image) new p (ok .chosen) .on-chip
 
-    update : Update n c new p state replies
+    update : Update n mode c new p state replies
     unfolding ready
     update =
         record {
@@ -98,12 +101,12 @@ module _ (n : ℕ) (whole : n % 8 ≡ 0) (some : 0 < n) (low : n ≤ 256) (c : C
           asked = laws .asked;
           apart = laws .apart;
           reads = reads;
-          old = λ m cut le lt. reads m cut le p below (laws .apart) ∙ simp (lt-ltb m shown lt);
+          old = λ m cut le lt. reads m cut le p below (laws .apart) ∙ simp (lt-ltb m (shownOf mode) lt);
           changed = λ m cut le ge.
-              reads m cut le p below (laws .apart) ∙ simp (le-ltb m shown ge) (moved-final n (c .image) new p l (t .0) (laws .hops) (laws .asked));
+              reads m cut le p below (laws .apart) ∙ simp (le-ltb m (shownOf mode) ge) (moved-final n (c .image) new p l (t .0) (laws .hops) (laws .asked));
           ordered = first-of;
           counted = events-length (planIn state) ∙ size;
-          shows = ap (λ (ss : List Step). getD (stepEvents ss) (shown - 1) Reset) same ∙ laws .shows;
+          shows = ap (λ (ss : List Step). getD (stepEvents ss) (shownOf mode - 1) Reset) same ∙ laws .shows;
           ends = λ good enough. call-laws n some .complete state c replies running within size (subst (Fits n c) (sym same) (laws .fits)) good enough;
         }
 
@@ -111,27 +114,27 @@ module _ (n : ℕ) (whole : n % 8 ≡ 0) (some : 0 < n) (low : n ≤ 256) (c : C
   choice = choiceOf n (c .image) new p
 
   accepts : Ready n c → Bytes new → (ch : Choice) → choice ≡ ch → choiceTold ch ≡ accepted []
-      → Update n c new p (choiceState n (c .image) new ch) replies
+      → Update n mode c new p (choiceState n mode (c .image) new ch) replies
   unfolding choiceState
   accepts ok small (Accepted l t) e a = update l t (record { ready = ok; new-bytes = small; chosen = e })
   accepts ok small (Refused r) e a = absurd (let y : _≡_ {A = ℕ} 0 1 = cc in omega arith)
 
   refuses : (k : ℕ) (values : List ℕ) (ch : Choice) → choice ≡ ch → choiceTold ch ≡ refused k values
-      → answersTo n (startState n (c .image) new p) replies ≡ replicate (length replies) (refused k values)
+      → answersTo n (startState n mode (c .image) new p) replies ≡ replicate (length replies) (refused k values)
   refuses k values (Accepted l t) e a = absurd (let y : _≡_ {A = ℕ} 0 1 = cc in omega arith)
   refuses k values (Refused r) e a =
       let number : numberOf r ≡ k = cc in
       let given : valuesOf r ≡ values = cc in
-      call-laws n some .refuses (c .image) new p r replies e
+      call-laws n some .refuses mode (c .image) new p r replies e
       ∙ ap₂ (λ (x : ℕ) (v : List ℕ). replicate {A = Told Next} (length replies) (refused x v)) number given
 
-  pub demand-3 : Ready n c → Bytes new → Demand3 n c new p replies
+  pub demand-3 : Ready n c → Bytes new → Demand3 n mode c new p replies
   demand-3 ok small =
       record {
         update = λ a. accepts ok small choice refl a;
         refusal = λ k values a. refuses k values choice refl a;
       }
 
--- at the DS2505's 64 pages
-pub ds2505 : (c : Chip) (new : List ℕ) (p : ℕ) (replies : List Bool) → Ready 64 c → Bytes new → Demand3 64 c new p replies
+-- at the DS2505's 64 pages, in both modes
+pub ds2505 : (mode : WriteMode) (c : Chip) (new : List ℕ) (p : ℕ) (replies : List Bool) → Ready 64 c → Bytes new → Demand3 64 mode c new p replies
 ds2505 = demand-3 64 refl (lit< tt) (lit≤ tt)

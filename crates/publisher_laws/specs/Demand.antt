@@ -1,6 +1,7 @@
 -- Demand 3: one claim about a whole run. It speaks of the definitions to which the contracts of the chip's event entry (eventAnswer,
 -- eventState, eventImage, in `next` and `run`), the publisher's start (startAnswer, startState) and its later calls (callAnswer, callState,
--- in `answersTo`) equate their answers. n is the page count.
+-- in `answersTo`) equate their answers. It is stated once for every kind of publisher: n is the page count, and mode is the mode of its
+-- writes, which says what its plan is (`planOf`), how many events that has (`totalOf`) and which of them is the visible one (`shownOf`).
 use Prim.Native.Nat.{ℕ, _+_, _-_, _<_, _≤_}
 use mathlib.Core.Path.{_≡_}
 use mathlib.Core.Bool.{Bool, true, false, cond}
@@ -9,6 +10,7 @@ use lib.Dec.{ltb}
 use lib.ListN.{length, getD, take, replicate}
 use Rattle.terms.specs.Told.{accepted, refused}
 use Rattle.terms.specs.declared.verdict.Verdict.the-variants.{Final}
+use Rattle.terms.specs.declared.write_mode.WriteMode.{WriteMode}
 use Rattle.bus.specs.declared.Event.{Event}
 use Rattle.bus.specs.declared.Event.the-variants.{Reset, Pulse, PowerLoss}
 use Rattle.chain.specs.Walk.{final, walkOf}
@@ -18,8 +20,8 @@ use Rattle.publisher.specs.declared.Publisher.{Publisher}
 use Rattle.publisher.specs.Start.{startAnswer, startState}
 use Rattle.publisher.specs.Call.{planIn}
 use Rattle.chip.specs.Run.{Chip, run}
-use Rattle.plan.specs.Plan.{total}
-use Rattle.plan_laws.specs.Plan.{stepEvents, shown}
+use Rattle.plan.specs.Plan.{totalOf, shownOf}
+use Rattle.plan_laws.specs.Plan.{stepEvents}
 use Rattle.call_laws.specs.Calls.{answersTo, Good, Begins}
 
 -- the events that the later calls returned
@@ -35,9 +37,9 @@ reaching events m true = take m events ++ (PowerLoss ∷ [])
 abbrev pub readAfter : ℕ → Chip → List Event → ℕ → Bool → ℕ → Reading
 readAfter n c events m cut q = readOf n (run n c (reaching events m cut) .image) q
 
--- An update of page p that the start accepted, lent the image of the chip c and the bytes new, with the state s; later calls get the
--- replies. L is s .last and T is s .target.
-pub record Update (n : ℕ) (c : Chip) (new : List ℕ) (p : ℕ) (s : Publisher) (replies : List Bool) : Type 0 where
+-- An update of page p in a mode that the start accepted, lent the image of the chip c and the bytes new, with the state s; later calls
+-- get the replies. L is s .last and T is s .target.
+pub record Update (n : ℕ) (mode : WriteMode) (c : Chip) (new : List ℕ) (p : ℕ) (s : Publisher) (replies : List Bool) : Type 0 where
   -- p ends at L, and is not T
   pub hops : ℕ
   pub asked : walkOf n (c .image) p ≡ Final (s .last) hops
@@ -47,22 +49,22 @@ pub record Update (n : ℕ) (c : Chip) (new : List ℕ) (p : ℕ) (s : Publisher
   -- as at the start
   pub reads : (m : ℕ) (cut : Bool) → m ≤ length (returned n s replies) → (q : ℕ) → q < n → (q ≡ s .target .0 → ⊥)
       → readAfter n c (returned n s replies) m cut q
-      ≡ cond (ltb m shown) (readOf n (c .image) q) (moved (s .last .0) (s .target .0) new (readOf n (c .image) q))
+      ≡ cond (ltb m (shownOf mode)) (readOf n (c .image) q) (moved (s .last .0) (s .target .0) new (readOf n (c .image) q))
   -- so the page asked for: wholly old, and then wholly new
-  pub old : (m : ℕ) (cut : Bool) → m ≤ length (returned n s replies) → m < shown → readAfter n c (returned n s replies) m cut p ≡ readOf n (c .image) p
-  pub changed : (m : ℕ) (cut : Bool) → m ≤ length (returned n s replies) → shown ≤ m
+  pub old : (m : ℕ) (cut : Bool) → m ≤ length (returned n s replies) → m < shownOf mode → readAfter n c (returned n s replies) m cut p ≡ readOf n (c .image) p
+  pub changed : (m : ℕ) (cut : Bool) → m ≤ length (returned n s replies) → shownOf mode ≤ m
       → readAfter n c (returned n s replies) m cut p ≡ record { verdict = final (s .target .0) (hops + 1); bytes = new }
   -- the events returned are the first of the plan, which has so many; the visible one is a pulse
   pub ordered : Begins (stepEvents (planIn s)) (returned n s replies)
-  pub counted : length (stepEvents (planIn s)) ≡ total
-  pub shows : getD (stepEvents (planIn s)) (shown - 1) Reset ≡ Pulse
+  pub counted : length (stepEvents (planIn s)) ≡ totalOf mode
+  pub shows : getD (stepEvents (planIn s)) (shownOf mode - 1) Reset ≡ Pulse
   -- with good replies, and more later calls than events in the plan, they return every event of the plan, and then L and T
-  pub ends : Good n c s replies → total < length replies
+  pub ends : Good n c s replies → totalOf mode < length replies
       → answersTo n s replies
-      ≡ map (λ (e : Event). accepted (send e)) (stepEvents (planIn s)) ++ replicate (length replies - total) (accepted (tells (s .last .0 ∷ s .target .0 ∷ [])))
+      ≡ map (λ (e : Event). accepted (send e)) (stepEvents (planIn s)) ++ replicate (length replies - totalOf mode) (accepted (tells (s .last .0 ∷ s .target .0 ∷ [])))
 
-pub record Demand3 (n : ℕ) (c : Chip) (new : List ℕ) (p : ℕ) (replies : List Bool) : Type 0 where
-  pub update : startAnswer n (c .image) new p ≡ accepted [] → Update n c new p (startState n (c .image) new p) replies
+pub record Demand3 (n : ℕ) (mode : WriteMode) (c : Chip) (new : List ℕ) (p : ℕ) (replies : List Bool) : Type 0 where
+  pub update : startAnswer n (c .image) new p ≡ accepted [] → Update n mode c new p (startState n mode (c .image) new p) replies
   -- after a start that refuses, every later call repeats the refusal, and no event is returned
   pub refusal : (k : ℕ) (values : List ℕ) → startAnswer n (c .image) new p ≡ refused k values
-      → answersTo n (startState n (c .image) new p) replies ≡ replicate (length replies) (refused k values)
+      → answersTo n (startState n mode (c .image) new p) replies ≡ replicate (length replies) (refused k values)

@@ -11,6 +11,8 @@ use Rattle.terms.specs.declared.address.Space.{Space}
 use Rattle.terms.specs.declared.address.Space.the-variants.{Data, Status}
 use Rattle.terms.specs.declared.address.Target.{Target}
 use Rattle.terms.specs.declared.address.Target.the-variants.{Data as DataTarget, Status as StatusTarget}
+use Rattle.terms.specs.declared.write_mode.WriteMode.{WriteMode}
+use Rattle.terms.specs.declared.write_mode.WriteMode.the-variants.{Ordinary, Quick}
 use Rattle.crc.specs.Crc.{crc16Byte}
 use Rattle.memory.specs.Layout.{dataSize, statusSize}
 use Rattle.memory_function.specs.declared.stage.Command.{Command}
@@ -24,7 +26,7 @@ use Rattle.memory_function.specs.declared.stage.MemoryStage.the-variants.{Silen
 use Rattle.memory_function.specs.Limits.{limitOf, isAddress, targetAt, targetInRange}
 use Rattle.memory_function.specs.Stages.{receiving, sendingByte, sendingCrc}
 use Rattle.memory_function.specs.Reads.{memoryFrom, statusFrom, redirectionFrom, pageFrom, startMemory, startStatus, startExtended, afterMemory, afterStatus, nextStatus, afterPage, nextPage}
-use Rattle.memory_function.specs.Writes.{startWrite, raised, nextWrite, readingBack}
+use Rattle.memory_function.specs.Writes.{startWrite, dataIn, raised, nextWrite, readingBack}
 use Rattle.memory_function.specs.Functions.{beginning, memoryCommand, addressed, startedAt, received, receiveBit, sent, sendBit, memorySlot, pulseStage}
 use Rattle.memory_function.specs.Ranges.{incomingInRange, outgoingInRange, widthOf, receiveInRange, sendInRange, memoryInRange}
 use Rattle.range_laws.specs.Ranges.{RangeLaws}
@@ -95,43 +97,50 @@ module _ (n : ℕ) where
       tested (eqb byte 0xF0) _ _ (λ _. beginning-kept ReadMemory 0xF0)
       (tested (eqb byte 0xAA) _ _ (λ _. beginning-kept ReadStatus 0xAA)
       (tested (eqb byte 0xA5) _ _ (λ _. beginning-kept ExtendedRead 0xA5)
-      (tested (eqb byte 0x0F) _ _ (λ _. beginning-kept (Write Data) 0x0F)
-      (tested (eqb byte 0x55) _ _ (λ _. beginning-kept (Write Status) 0x55)
-      silent-kept))))
+      (tested (eqb byte 0x0F) _ _ (λ _. beginning-kept (Write Ordinary Data) 0x0F)
+      (tested (eqb byte 0x55) _ _ (λ _. beginning-kept (Write Ordinary Status) 0x55)
+      (tested (eqb byte 0xF3) _ _ (λ _. beginning-kept (Write Quick Data) 0xF3)
+      (tested (eqb byte 0xF5) _ _ (λ _. beginning-kept (Write Quick Status) 0xF5)
+      silent-kept))))))
 
   target-kept : (space : Space) (a : ℕ) → isAddress n space a ≡ true → targetInRange n (targetAt space a) ≡ true
   unfolding targetAt targetInRange
   target-kept Data a h = h
   target-kept Status a h = h
 
-  write-kept : (space : Space) (a crc : ℕ) → isAddress n space a ≡ true → Kept n (receiving (DataByte (targetAt space a)) crc)
+  write-kept : (mode : WriteMode) (space : Space) (a crc : ℕ) → isAddress n space a ≡ true → Kept n (receiving (DataByte mode (targetAt space a)) crc)
   unfolding incomingInRange
-  write-kept space a crc h = receiving-kept (DataByte (targetAt space a)) crc (target-kept space a h)
+  write-kept mode space a crc h = receiving-kept (DataByte mode (targetAt space a)) crc (target-kept space a h)
 
   addressed-kept : (c : Command) (a crc : ℕ) (img : List ℕ) → Kept n (addressed n c a crc img)
   unfolding addressed startMemory startStatus startExtended startWrite memoryFrom statusFrom redirectionFrom widthOf outgoingInRange
   addressed-kept ReadMemory a crc img = tested (isAddress n Data a) _ _ (sending-byte-kept _ _ _ refl) silent-kept
   addressed-kept ReadStatus a crc img = tested (isAddress n Status a) _ _ (sending-byte-kept _ _ _ refl) silent-kept
   addressed-kept ExtendedRead a crc img = tested (isAddress n Data a) _ _ (sending-byte-kept _ _ _ refl) silent-kept
-  addressed-kept (Write space) a crc img = tested (isAddress n space a) _ _ (write-kept space a crc) silent-kept
+  addressed-kept (Write mode space) a crc img = tested (isAddress n space a) _ _ (write-kept mode space a crc) silent-kept
+
+  data-kept : (mode : WriteMode) (t : Target) (byte crc : ℕ) → targetInRange n t ≡ true → Kept n (dataIn mode t byte crc)
+  unfolding dataIn outgoingInRange widthOf memoryInRange
+  data-kept Ordinary t byte crc h = sending-crc-kept _ _ refl h
+  data-kept Quick t byte crc h = h
 
   received-kept : (i : Incoming) (byte crc : ℕ) (img : List ℕ) → incomingInRange n i ≡ true → Kept n (received n i byte crc img)
-  unfolding received startedAt incomingInRange outgoingInRange widthOf
+  unfolding received startedAt incomingInRange
   received-kept CommandByte byte crc img h = command-kept byte
   received-kept (AddressLow c) byte crc img h = receiving-kept _ _ refl
   received-kept (AddressHigh c low) byte crc img h = addressed-kept c _ _ img
-  received-kept (DataByte t) byte crc img h = sending-crc-kept _ _ refl h
+  received-kept (DataByte mode t) byte crc img h = data-kept mode t byte crc h
 
   -- ---- all bits of something have gone out
 
-  raised-kept : (space : Space) (a : ℕ) → Kept n (raised n space a)
+  raised-kept : (mode : WriteMode) (space : Space) (a : ℕ) → Kept n (raised n mode space a)
   unfolding raised isAddress
-  raised-kept space a = tested (ltb (a + 1) (limitOf n space)) _ _ (write-kept space (a + 1) (a + 1)) silent-kept
+  raised-kept mode space a = tested (ltb (a + 1) (limitOf n space)) _ _ (write-kept mode space (a + 1) (a + 1)) silent-kept
 
-  next-write-kept : (t : Target) → Kept n (nextWrite n t)
+  next-write-kept : (mode : WriteMode) (t : Target) → Kept n (nextWrite n mode t)
   unfolding nextWrite
-  next-write-kept (DataTarget a) = raised-kept Data (a .0)
-  next-write-kept (StatusTarget a) = raised-kept Status (a .0)
+  next-write-kept mode (DataTarget a) = raised-kept mode Data (a .0)
+  next-write-kept mode (StatusTarget a) = raised-kept mode Status (a .0)
 
   -- the pages of the status memory are whole
   module _ (whole : n % 8 ≡ 0) where
@@ -148,7 +157,7 @@ module _ (n : ℕ) where
         tested (ltb (a .0 % 32) 31) _ _ (λ t. sending-byte-kept _ _ _ refl (data-up n (a .0) t h)) (sending-crc-kept _ _ refl h)
     sent-kept (PageCrc a) crc img h = tested (ltb (a .0 + 1) (dataSize n)) _ _ (sending-byte-kept _ _ _ refl) silent-kept
     sent-kept (WriteCrc t byte) crc img h = unfold memoryInRange in h
-    sent-kept (ReadBack t) crc img h = next-write-kept t
+    sent-kept (ReadBack mode t) crc img h = next-write-kept mode t
 
     -- ---- a slot
 
@@ -173,7 +182,7 @@ module _ (n : ℕ) where
     slot-kept Silent bit img h = refl
     slot-kept (Receive i k register crc) bit img h = receive-bit-kept i k (shiftIn register bit) crc img h
     slot-kept (Send o left v crc) bit img h = send-bit-kept o left v crc img h
-    slot-kept (Armed t byte) bit img h = refl
+    slot-kept (Armed mode t byte) bit img h = refl
 
   -- ---- a pulse
 
@@ -182,7 +191,7 @@ module _ (n : ℕ) where
   pulse-kept Silent img h = h
   pulse-kept (Receive i k register crc) img h = h
   pulse-kept (Send o left v crc) img h = h
-  pulse-kept (Armed t byte) img h = sending-byte-kept _ _ _ refl h
+  pulse-kept (Armed mode t byte) img h = sending-byte-kept _ _ _ refl h
 
 pub range-laws : (n : ℕ) → n % 8 ≡ 0 → RangeLaws n
 range-laws n whole = record { slot = slot-kept n whole; pulse = pulse-kept n }

@@ -1,27 +1,19 @@
 -- The publisher's later calls fed a list of replies, over the page count n.
 use Prim.Native.Nat.{ℕ}
-use mathlib.Core.Bool.{Bool}
 use mathlib.Core.List.{List, map}
 use Rattle.terms.specs.Filled.{filled}
 use Rattle.terms.specs.Told.{Told}
 use Rattle.master.specs.Next.{Next}
 use Rattle.master.specs.Joint as joint
-use Rattle.plan.specs.Plan.{total}
 use Rattle.publisher.specs.declared.Publisher.{Publisher}
-use Rattle.publisher.specs.Call.{planIn, callAnswer, callState}
+use Rattle.publisher.specs.Call.{callAnswer, callState}
 use Rattle.runs.specs.Calls.{repliesAt, callCode, lastFrom, toCome}
 
-abbrev pub publisherAfter : ℕ → Publisher → Bool → Publisher
-publisherAfter n s reply = callState total n (planIn s) s reply
-
-abbrev pub publisherTold : ℕ → Publisher → Bool → Told Next
-publisherTold n s reply = callAnswer total n (planIn s) s reply
-
 abbrev pub publisherCalls : ℕ → Publisher → List ℕ → Publisher
-publisherCalls n s codes = joint.calls (publisherAfter n) (publisherTold n) s (repliesAt codes)
+publisherCalls n s codes = joint.calls (callState n) (callAnswer n) s (repliesAt codes)
 
 abbrev pub publisherAnswers : ℕ → Publisher → List ℕ → List (Told Next)
-publisherAnswers n s codes = joint.answers (publisherAfter n) (publisherTold n) s (repliesAt codes)
+publisherAnswers n s codes = joint.answers (callState n) (callAnswer n) s (repliesAt codes)
 
 -- a buffer with a byte for each call's answer, from its start on, as far as it goes
 abbrev pub publisherEvents : ℕ → Publisher → List ℕ → List ℕ → List ℕ

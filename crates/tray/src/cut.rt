@@ -1,5 +1,6 @@
 // A whole update, cut after every number of events.
 use terms::address::Page;
+use terms::write_mode::WriteMode;
 use tray_tools::draw;
 use tray_tools::fill;
 use tray_tools::tell;
@@ -27,6 +28,7 @@ fn case(
     group: &[u8],
     seed: u64,
     blank: bool,
+    mode: WriteMode,
     events: u64,
     image: &mut [u8; 2368],
     new: &mut [u8; 32],
@@ -40,21 +42,37 @@ fn case(
     let calls = (events % 10000) as u32;
     tell_updated(
         &mut d,
-        update::update(image, number, new, Page(page), calls),
+        update::update(mode, image, number, new, Page(page), calls),
     );
     tell::bytes(&mut d, image);
     text::line(group, events, d);
 }
 
-// After 0 to 1,225 events, of which there are 1,222.
-fn cuts(group: &[u8], seed: u64, blank: bool, image: &mut [u8; 2368], new: &mut [u8; 32]) {
-    let mut left = 1226u64;
+// How many cuts there are: after each number of events, up to three more than the update has, which are 1,222 or 678.
+fn cut_count(mode: WriteMode) -> u64 {
+    match mode {
+        WriteMode::Ordinary => 1226,
+        WriteMode::Quick => 682,
+    }
+}
+
+fn cuts(
+    group: &[u8],
+    seed: u64,
+    blank: bool,
+    mode: WriteMode,
+    image: &mut [u8; 2368],
+    new: &mut [u8; 32],
+) {
+    let count = cut_count(mode);
+    let mut left = count;
     while left > 0 {
         case(
             group,
             seed,
             blank,
-            std::num::wrapping_sub_u64(1226, left),
+            mode,
+            std::num::wrapping_sub_u64(count, left),
             image,
             new,
         );
@@ -62,9 +80,17 @@ fn cuts(group: &[u8], seed: u64, blank: bool, image: &mut [u8; 2368], new: &mut 
     }
 }
 
-pub fn all(image: &mut [u8; 2368], new: &mut [u8; 32]) {
-    cuts(b"cut-a", 0x6375_7420_626C_616Eu64, true, image, new);
-    cuts(b"cut-b", 0x6375_7420_7573_6540u64, false, image, new);
-    cuts(b"cut-c", 0x6375_7420_7573_656Eu64, false, image, new);
-    cuts(b"cut-d", 0x6375_7420_7573_6524u64, false, image, new);
+pub fn ordinary(image: &mut [u8; 2368], new: &mut [u8; 32]) {
+    let mode = WriteMode::Ordinary;
+    cuts(b"cut-a", 0x6375_7420_626C_616E, true, mode, image, new);
+    cuts(b"cut-b", 0x6375_7420_7573_6540, false, mode, image, new);
+    cuts(b"cut-c", 0x6375_7420_7573_656E, false, mode, image, new);
+    cuts(b"cut-d", 0x6375_7420_7573_6524, false, mode, image, new);
+}
+
+// In quick-b the page asked for is already redirected, over four hops.
+pub fn quick(image: &mut [u8; 2368], new: &mut [u8; 32]) {
+    let mode = WriteMode::Quick;
+    cuts(b"quick-a", 0x7175_6963_6B20_626C, true, mode, image, new);
+    cuts(b"quick-b", 0x7175_6963_6B20_757E, false, mode, image, new);
 }

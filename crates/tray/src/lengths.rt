@@ -1,6 +1,7 @@
 // Images, new pages and buffers of right and wrong lengths, and page numbers about the last.
 use chip::event::State;
 use terms::address::Page;
+use terms::write_mode::WriteMode;
 use tray_tools::draw;
 use tray_tools::fill;
 use tray_tools::line;
@@ -10,7 +11,7 @@ use tray_tools::text;
 
 // The publisher's start.
 fn start(image: &[u8], new: &[u8], page: u8, d: &mut u64) {
-    let started = publisher::start(image, new, Page(page));
+    let started = publisher::start(WriteMode::Ordinary, image, new, Page(page));
     let answer = started.answer;
     tell::started(d, answer);
 }
@@ -35,7 +36,8 @@ fn readers(image: &[u8], page: u8, d: &mut u64) {
 fn lent(image: &mut [u8], bytes: &mut [u8], number: [u8; 8], page: u8, d: &mut u64) {
     tell::judged(d, chip::page::copy(image, Page(page), bytes));
     start(image, bytes, page, d);
-    crate::cut::tell_updated(d, update::update(image, number, bytes, Page(page), 1300));
+    let updated = update::update(WriteMode::Ordinary, image, number, bytes, Page(page), 1300);
+    crate::cut::tell_updated(d, updated);
 }
 
 fn event(state: State, code: u8, image: &mut [u8], d: &mut u64) -> State {

@@ -16,9 +16,10 @@ fn all(
     rows::all(list, image, buffer);
     notes::all();
     walks::all(800, image, buffer);
-    cut::all(image, buffer);
+    cut::ordinary(image, buffer);
     lengths::images(image, space, room);
     lengths::buffers(image, room);
+    cut::quick(image, buffer);
 }
 
 fn main() {

@@ -3,13 +3,24 @@ use chip::walk::Walked;
 use number_read::Answer;
 use number_read::Stepped;
 use terms::address::Page;
+use terms::address::Space;
 use terms::refusal::Refusal;
 use terms::verdict::Verdict;
+use terms::write_mode;
+use terms::write_mode::WriteMode;
 use tray_tools::fill;
 use tray_tools::line;
 use tray_tools::place;
 use tray_tools::text;
 use update::Updated;
+
+// What a row of the quick mode begins with.
+fn say_mode(mode: WriteMode) {
+    match mode {
+        WriteMode::Ordinary => {}
+        WriteMode::Quick => text::words(b"quick, "),
+    }
+}
 
 fn say_refusal(r: Refusal) {
     text::words(b"refused ");
@@ -88,51 +99,113 @@ fn chains(image: &mut [u8; 2368]) {
 
 // ---- the chip
 
-// A byte is written at data address 25h, on page 1: 33 events up to the address, 8 for the byte, 16 for the CRC, the pulse, 8 read.
-fn write(high: u8, sent: u8, list: &mut [u8; 65536], image: &mut [u8; 2368], d: &mut u64) {
-    let a = line::begin(list, 0x0F, 0x25, high);
-    let b = line::send(list, a, sent);
-    let c = line::send(list, b, 0xFF);
-    let e = line::send(list, c, 0xFF);
-    let f = line::add(list, e, 3);
-    let end = line::send(list, f, 0xFF);
-    line::run([0u8; 8], end, list, image, d);
+// A blank image with this byte at data address 25h.
+fn hold(image: &mut [u8; 2368], byte: u8) {
+    fill::blank(image);
+    place::put(image, 0x25, byte);
 }
 
-fn say_write(list: &mut [u8; 65536], image: &[u8]) {
-    text::words(b": crc");
-    text::next_byte(line::heard(list, 41));
-    text::next_byte(line::heard(list, 49));
-    text::words(b", read back");
-    text::next_byte(line::heard(list, 58));
-    text::words(b", held");
+// So many bytes of ones.
+fn ones(list: &mut [u8; 65536], at: usize, bytes: u8) -> usize {
+    let mut next = at;
+    let mut left = bytes;
+    while left > 0 {
+        next = line::send(list, next, 0xFF);
+        left -= 1;
+    }
+    next
+}
+
+// The CRC is read where the mode has one.
+fn read_crc(mode: WriteMode, list: &mut [u8; 65536], at: usize) -> usize {
+    match mode {
+        WriteMode::Ordinary => ones(list, at, 2),
+        WriteMode::Quick => at,
+    }
+}
+
+// A byte is written: 8 events for it, 16 for the CRC where there is one, the pulse, 8 to read the byte back.
+fn write_byte(mode: WriteMode, list: &mut [u8; 65536], at: usize, sent: u8) -> usize {
+    let a = line::send(list, at, sent);
+    let b = read_crc(mode, list, a);
+    let c = line::add(list, b, 3);
+    line::send(list, c, 0xFF)
+}
+
+// The byte that was read back up to this place.
+fn say_back(list: &mut [u8; 65536], end: usize) {
+    text::next_byte(line::heard(list, std::num::wrapping_sub_usize(end, 8)));
+}
+
+// The CRC, where the mode has one, comes after 33 events up to the address and 8 for the byte.
+fn say_crc(mode: WriteMode, list: &mut [u8; 65536]) {
+    match mode {
+        WriteMode::Ordinary => {
+            text::words(b" crc");
+            text::next_byte(line::heard(list, 41));
+            text::next_byte(line::heard(list, 49));
+            text::words(b",");
+        }
+        WriteMode::Quick => {}
+    }
+}
+
+fn say_held(image: &[u8]) {
+    text::words(b" held");
     text::next_byte(place::get(image, 0x25));
     text::words(b"\n");
 }
 
-fn writes(list: &mut [u8; 65536], image: &mut [u8; 2368], d: &mut u64) {
-    fill::blank(image);
-    place::put(image, 0x25, 0xF0);
-    text::words(b"0f written over f0");
-    write(0x00, 0x0F, list, image, d);
-    say_write(list, image);
-    place::put(image, 0x25, 0x5A);
-    text::words(b"ff written over 5a");
-    write(0x00, 0xFF, list, image, d);
-    say_write(list, image);
-    place::clear(image, 0, 1);
-    text::words(b"0f written over a protected 5a");
-    write(0x00, 0x0F, list, image, d);
-    say_write(list, image);
+// A byte is written at data address 25h, on page 1.
+fn write(
+    mode: WriteMode,
+    words: &[u8],
+    high: u8,
+    sent: u8,
+    list: &mut [u8; 65536],
+    image: &mut [u8; 2368],
+    d: &mut u64,
+) {
+    let command = write_mode::command(mode, Space::Data);
+    let start = line::begin(list, command, 0x25, high);
+    let end = write_byte(mode, list, start, sent);
+    line::run([0u8; 8], end, list, image, d);
+    say_mode(mode);
+    text::words(words);
+    text::words(b":");
+    say_crc(mode, list);
+    text::words(b" read back");
+    say_back(list, end);
+    text::words(b",");
+    say_held(image);
 }
 
-// A bit of the start address is set that the chip drops.
-fn high_write(list: &mut [u8; 65536], image: &mut [u8; 2368], d: &mut u64) {
-    fill::blank(image);
-    place::put(image, 0x25, 0xF0);
-    text::words(b"0f written over f0 from start 08 25");
-    write(0x08, 0x0F, list, image, d);
-    say_write(list, image);
+// The last has a bit of the start address set that the chip drops.
+fn writes(mode: WriteMode, list: &mut [u8; 65536], image: &mut [u8; 2368], d: &mut u64) {
+    hold(image, 0xF0);
+    write(mode, b"0f written over f0", 0x00, 0x0F, list, image, d);
+    hold(image, 0x5A);
+    write(mode, b"ff written over 5a", 0x00, 0xFF, list, image, d);
+    place::clear(image, 0, 1);
+    write(
+        mode,
+        b"0f written over a protected 5a",
+        0x00,
+        0x0F,
+        list,
+        image,
+        d,
+    );
+    hold(image, 0xF0);
+    write(
+        mode,
+        b"0f written over f0 from start 08 25",
+        0x08,
+        0x0F,
+        list,
+        image,
+        d,
+    );
 }
 
 fn no_bytes() {
@@ -167,10 +240,10 @@ fn say_start(command: u8, low: u8, high: u8) {
     text::words(b" start");
     text::next_byte(high);
     text::next_byte(low);
-    text::words(b":");
 }
 
 fn say_read(list: &mut [u8; 65536]) {
+    text::words(b":");
     text::next_byte(line::heard(list, 33));
     text::next_byte(line::heard(list, 41));
     text::next_byte(line::heard(list, 49));
@@ -192,11 +265,16 @@ fn read_from(
     say_read(list);
 }
 
-// A byte, its CRC, then ones; ones alone where the memory does not have the address; and the same with bits set that the chip drops.
-fn starts(list: &mut [u8; 65536], image: &mut [u8; 2368], d: &mut u64) {
+// A blank image with bytes at the first and the last data address.
+fn hold_ends(image: &mut [u8; 2368]) {
     fill::blank(image);
     place::put(image, 0x000, 0x3C);
     place::put(image, 0x7FF, 0x5A);
+}
+
+// A byte, its CRC, then ones; ones alone where the memory does not have the address; and the same with bits set that the chip drops.
+fn starts(list: &mut [u8; 65536], image: &mut [u8; 2368], d: &mut u64) {
+    hold_ends(image);
     read_from(0xF0, 0xFF, 0x07, list, image, d);
     read_from(0xF0, 0x00, 0x08, list, image, d);
     read_from(0xF0, 0xFF, 0xFF, list, image, d);
@@ -207,6 +285,57 @@ fn starts(list: &mut [u8; 65536], image: &mut [u8; 2368], d: &mut u64) {
     read_from(0xAA, 0x40, 0x09, list, image, d);
 }
 
+// Two bytes by a quick write from a start address.
+fn quick_from(
+    command: u8,
+    low: u8,
+    high: u8,
+    list: &mut [u8; 65536],
+    image: &mut [u8; 2368],
+    d: &mut u64,
+) {
+    hold_ends(image);
+    let start = line::begin(list, command, low, high);
+    let a = write_byte(WriteMode::Quick, list, start, 0x0F);
+    let b = write_byte(WriteMode::Quick, list, a, 0x33);
+    line::run([0u8; 8], b, list, image, d);
+    say_start(command, low, high);
+    text::words(b", 0f 33 written: read back");
+    say_back(list, a);
+    say_back(list, b);
+    text::words(b"\n");
+}
+
+// The second byte beyond the last address, or both, or the start with a bit set that the chip drops.
+fn quick_starts(list: &mut [u8; 65536], image: &mut [u8; 2368], d: &mut u64) {
+    quick_from(0xF3, 0xFF, 0x07, list, image, d);
+    quick_from(0xF3, 0x00, 0x08, list, image, d);
+    quick_from(0xF5, 0x3F, 0x01, list, image, d);
+    quick_from(0xF5, 0x40, 0x01, list, image, d);
+    quick_from(0xF5, 0x3F, 0x09, list, image, d);
+}
+
+// A quick write of 0Fh over 5Ah at data address 25h, with its pulse after so many slots of data.
+fn quick_pulse(slots: usize, list: &mut [u8; 65536], image: &mut [u8; 2368], d: &mut u64) {
+    hold(image, 0x5A);
+    let start = line::begin(list, 0xF3, 0x25, 0x00);
+    let sent = line::send(list, start, 0x0F);
+    line::send(list, sent, 0xFF);
+    let end = line::add(list, std::num::wrapping_add_usize(start, slots), 3);
+    line::run([0u8; 8], end, list, image, d);
+    text::words(b"quick, 0f over 5a with the pulse after ");
+    text::decimal(slots as u64);
+    text::words(b" slots:");
+    say_held(image);
+}
+
+// One short, the whole byte, and one slot more.
+fn quick_pulses(list: &mut [u8; 65536], image: &mut [u8; 2368], d: &mut u64) {
+    quick_pulse(7, list, image, d);
+    quick_pulse(8, list, image, d);
+    quick_pulse(9, list, image, d);
+}
+
 // ---- the masters
 
 fn say_number(answer: Answer) {
@@ -215,17 +344,6 @@ fn say_number(answer: Answer) {
         Answer::Done => text::words(b"accepted"),
         Answer::Refused(r) => say_refusal(r),
     }
-}
-
-// So many bytes of ones.
-fn ones(list: &mut [u8; 65536], at: usize, bytes: u8) -> usize {
-    let mut next = at;
-    let mut left = bytes;
-    while left > 0 {
-        next = line::send(list, next, 0xFF);
-        left -= 1;
-    }
-    next
 }
 
 // The 74 events of a number read, on a chip whose number is eight zero bytes.
@@ -277,17 +395,24 @@ fn elevens(image: &mut [u8; 2368]) {
 }
 
 // Page 0 is superseded by 22h in every byte.
-fn cut(events: u32, final_page: u8, image: &mut [u8; 2368], new: &mut [u8; 32]) {
+fn cut(mode: WriteMode, events: u32, final_page: u8, image: &mut [u8; 2368], new: &mut [u8; 32]) {
     fill::blank(image);
     elevens(image);
+    say_mode(mode);
     text::words(b"cut after event ");
     text::decimal(events as u64);
-    update::update(image, [0u8; 8], new, Page(0), events);
+    update::update(mode, image, [0u8; 8], new, Page(0), events);
     text::words(b": page 0 ");
     say_walk(image, 0);
     text::words(b",");
     say_page(image, final_page);
     text::words(b"\n");
+}
+
+// The cut comes before and after the pulse that makes this visible.
+fn cuts(mode: WriteMode, pulse: u32, image: &mut [u8; 2368], new: &mut [u8; 32]) {
+    cut(mode, std::num::wrapping_sub_u32(pulse, 1), 0, image, new);
+    cut(mode, pulse, 1, image, new);
 }
 
 fn say_updated(u: Updated) {
@@ -302,13 +427,19 @@ fn say_updated(u: Updated) {
     }
 }
 
-fn blank_update(page: u8, image: &mut [u8; 2368], new: &mut [u8; 32]) {
+// The whole update. In the quick mode it has fewer events.
+fn whole(mode: WriteMode, page: u8, image: &mut [u8; 2368], new: &mut [u8; 32]) {
+    say_updated(update::update(mode, image, [0u8; 8], new, Page(page), 1222));
+    text::words(b"\n");
+}
+
+fn blank_update(mode: WriteMode, page: u8, image: &mut [u8; 2368], new: &mut [u8; 32]) {
     fill::blank(image);
+    say_mode(mode);
     text::words(b"blank image, p = ");
     text::decimal(page as u64);
     text::words(b": ");
-    say_updated(update::update(image, [0u8; 8], new, Page(page), 1222));
-    text::words(b"\n");
+    whole(mode, page, image, new);
 }
 
 // Pages 2 to 63 are marked used.
@@ -320,27 +451,34 @@ fn mark(image: &mut [u8; 2368]) {
     }
 }
 
-fn full_update(image: &mut [u8; 2368], new: &mut [u8; 32]) {
+fn full_update(mode: WriteMode, image: &mut [u8; 2368], new: &mut [u8; 32]) {
     fill::blank(image);
     mark(image);
+    say_mode(mode);
     text::words(b"the same with pages 2 to 63 marked used, p = 1: ");
-    say_updated(update::update(image, [0u8; 8], new, Page(1), 1222));
-    text::words(b"\n");
+    whole(mode, 1, image, new);
+}
+
+fn updates(mode: WriteMode, image: &mut [u8; 2368], new: &mut [u8; 32]) {
+    blank_update(mode, 0, image, new);
+    blank_update(mode, 1, image, new);
+    full_update(mode, image, new);
 }
 
 pub fn all(list: &mut [u8; 65536], image: &mut [u8; 2368], new: &mut [u8; 32]) {
     let mut d = 1u64;
     bytes_on_1(image);
     chains(image);
-    writes(list, image, &mut d);
-    high_write(list, image, &mut d);
+    writes(WriteMode::Ordinary, list, image, &mut d);
     no_bytes();
     starts(list, image, &mut d);
     zero_number(list, image, &mut d);
     fill::same(new, 0x22);
-    cut(1212, 0, image, new);
-    cut(1213, 1, image, new);
-    blank_update(0, image, new);
-    blank_update(1, image, new);
-    full_update(image, new);
+    cuts(WriteMode::Ordinary, 1213, image, new);
+    updates(WriteMode::Ordinary, image, new);
+    writes(WriteMode::Quick, list, image, &mut d);
+    quick_starts(list, image, &mut d);
+    quick_pulses(list, image, &mut d);
+    cuts(WriteMode::Quick, 669, image, new);
+    updates(WriteMode::Quick, image, new);
 }

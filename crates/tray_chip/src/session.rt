@@ -131,13 +131,15 @@ fn rom(g: &mut u64, list: &mut [u8; 65536], at: usize, number: [u8; 8], times: u
 // ---- memory commands
 
 fn memory_command(g: &mut u64) -> u8 {
-    match draw::below(g, 11) {
+    match draw::below(g, 15) {
         0 => draw::byte(g),
         1 | 2 => 0xF0,
         3 | 4 => 0xAA,
         5 | 6 => 0xA5,
         7 | 8 => 0x0F,
-        _ => 0x55,
+        9 | 10 => 0x55,
+        11 | 12 => 0xF3,
+        _ => 0xF5,
     }
 }
 
@@ -179,19 +181,27 @@ fn maybe_pulse(g: &mut u64, list: &mut [u8; 65536], at: usize) -> usize {
     }
 }
 
-fn write_byte(g: &mut u64, list: &mut [u8; 65536], at: usize, times: u64) -> usize {
+// The CRC is read where the command has one.
+fn read_crc(g: &mut u64, list: &mut [u8; 65536], at: usize, command: u8, times: u64) -> usize {
+    match command {
+        0x0F | 0x55 => read(g, list, at, 16, times),
+        _ => at,
+    }
+}
+
+fn write_byte(g: &mut u64, list: &mut [u8; 65536], at: usize, command: u8, times: u64) -> usize {
     let byte = byte_to_write(g);
     let sent = send(g, list, at, byte, times);
-    let armed = read(g, list, sent, 16, times);
+    let armed = read_crc(g, list, sent, command, times);
     let pulsed = maybe_pulse(g, list, armed);
     read(g, list, pulsed, 8, times)
 }
 
-fn write(g: &mut u64, list: &mut [u8; 65536], at: usize, times: u64) -> usize {
+fn write(g: &mut u64, list: &mut [u8; 65536], at: usize, command: u8, times: u64) -> usize {
     let mut next = at;
     let mut left = draw::from(g, 1, 9);
     while left > 0 {
-        next = write_byte(g, list, next, times);
+        next = write_byte(g, list, next, command, times);
         left -= 1;
     }
     next
@@ -213,7 +223,7 @@ fn read_some(g: &mut u64, list: &mut [u8; 65536], at: usize, times: u64) -> usiz
 
 fn memory_rest(g: &mut u64, list: &mut [u8; 65536], at: usize, command: u8, times: u64) -> usize {
     match command {
-        0x0F | 0x55 => write(g, list, at, times),
+        0x0F | 0x55 | 0xF3 | 0xF5 => write(g, list, at, command, times),
         _ => read_some(g, list, at, times),
     }
 }

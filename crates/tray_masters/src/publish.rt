@@ -5,6 +5,7 @@ use publisher::Answer;
 use publisher::Publisher;
 use publisher::StartAnswer;
 use terms::address::Page;
+use terms::write_mode::WriteMode;
 use tray_tools::draw;
 use tray_tools::fill;
 use tray_tools::place;
@@ -44,10 +45,17 @@ fn turn(j: Joined, image: &mut [u8], d: &mut u64) -> Joined {
     Joined { master, world }
 }
 
-// 1,222 events, the end, and some calls more.
-fn run(start: Joined, image: &mut [u8; 2368], d: &mut u64) {
+// 1,222 events or 678, the end, and some calls more.
+fn calls(mode: WriteMode) -> u64 {
+    match mode {
+        WriteMode::Ordinary => 1230,
+        WriteMode::Quick => 690,
+    }
+}
+
+fn run(start: Joined, mode: WriteMode, image: &mut [u8; 2368], d: &mut u64) {
     let mut j = start;
-    let mut left = 1230u64;
+    let mut left = calls(mode);
     while left > 0 {
         j = turn(j, image, d);
         left -= 1;
@@ -69,18 +77,25 @@ fn ready(answer: StartAnswer) -> bool {
     }
 }
 
-fn go_on(start: Joined, image: &mut [u8; 2368], d: &mut u64) {
+fn go_on(start: Joined, mode: WriteMode, image: &mut [u8; 2368], d: &mut u64) {
     alter(image, *d);
-    run(start, image, d);
+    run(start, mode, image, d);
 }
 
-fn publish(page: u8, world: World, new: &[u8], image: &mut [u8; 2368], d: &mut u64) {
-    let started = publisher::start(image, new, Page(page));
+fn publish(
+    mode: WriteMode,
+    page: u8,
+    world: World,
+    new: &[u8],
+    image: &mut [u8; 2368],
+    d: &mut u64,
+) {
+    let started = publisher::start(mode, image, new, Page(page));
     let answer = started.answer;
     let master = started.state;
     tell::started(d, answer);
     if ready(answer) {
-        go_on(Joined { master, world }, image, d);
+        go_on(Joined { master, world }, mode, image, d);
     }
 }
 
@@ -96,6 +111,7 @@ fn image_for(g: &mut u64, image: &mut [u8; 2368]) {
 fn case(
     group: &[u8],
     n: u64,
+    mode: WriteMode,
     hostile: bool,
     g: &mut u64,
     image: &mut [u8; 2368],
@@ -109,6 +125,7 @@ fn case(
     let source = world::source(g, hostile);
     let page = draw::page(g);
     publish(
+        mode,
         page,
         world::either(source, number, noise),
         new,
@@ -119,13 +136,28 @@ fn case(
     text::line(group, n, d);
 }
 
-pub fn all(group: &[u8], cases: u64, hostile: bool, image: &mut [u8; 2368], new: &mut [u8; 32]) {
-    let mut g = 0x7075_626C_6973_6865u64;
+fn seed(mode: WriteMode) -> u64 {
+    match mode {
+        WriteMode::Ordinary => 0x7075_626C_6973_6865,
+        WriteMode::Quick => 0x7175_6963_6B20_7570,
+    }
+}
+
+pub fn all(
+    group: &[u8],
+    cases: u64,
+    mode: WriteMode,
+    hostile: bool,
+    image: &mut [u8; 2368],
+    new: &mut [u8; 32],
+) {
+    let mut g = seed(mode);
     let mut left = cases;
     while left > 0 {
         case(
             group,
             std::num::wrapping_sub_u64(cases, left),
+            mode,
             hostile,
             &mut g,
             image,

@@ -5,14 +5,12 @@ use mathlib.Core.Bool.{Bool, true, false, cond}
 use mathlib.Core.List.{List}
 use native.Mathlib.Omega.{arith}
 use Rattle.terms.specs.Told.{judge}
-use Rattle.plan.specs.declared.Step.{Step}
-use Rattle.plan.specs.Plan.{total}
 use Rattle.publisher.specs.declared.Stage.{Stage}
 use Rattle.publisher.specs.declared.Stage.the-variants.{Running, Done, Stopped}
 use Rattle.publisher.specs.declared.Publisher.{Publisher}
-use Rattle.publisher.specs.Call.{planIn, turnOf, turnTold, inRange, callAnswer, callState}
+use Rattle.publisher.specs.Call.{planIn, totalIn, turnOf, turnTold, inRange, callAnswer, callState}
 use Rattle.chip.specs.Run.{Chip}
-use Rattle.call_laws.specs.Calls.{called, told, chipAfter}
+use Rattle.call_laws.specs.Calls.{chipAfter}
 use Rattle.update.specs.declared.Joined.{Joined}
 use Rattle.update.specs.Update.{chipOf, handedOn, handedImage, calling, turned, turnedImage, isRunning, runFor}
 
@@ -20,29 +18,29 @@ cond-same : (b : Bool) (x s : Publisher) → x ≡ s → cond b x s ≡ s
 cond-same true x s e = e
 cond-same false x s e = refl
 
-turn-same : (plan : List Step) (s : Publisher) (g : Stage) (reply : Bool) → isRunning g ≡ false → turnOf total plan s g reply .state ≡ s
+turn-same : (s : Publisher) (g : Stage) (reply : Bool) → isRunning g ≡ false → turnOf (totalIn s) (planIn s) s g reply .state ≡ s
 unfolding isRunning turnOf
-turn-same plan s (Running k good) reply h = absurd (let z : _≡_ {A = ℕ} 1 0 = ap (λ (b : Bool). cond b 1 0) h in omega arith)
-turn-same plan s Done reply h = refl
-turn-same plan s (Stopped r) reply h = refl
+turn-same s (Running k good) reply h = absurd (let z : _≡_ {A = ℕ} 1 0 = ap (λ (b : Bool). cond b 1 0) h in omega arith)
+turn-same s Done reply h = refl
+turn-same s (Stopped r) reply h = refl
 
-quiet : (n : ℕ) (c : Chip) (plan : List Step) (s : Publisher) (g : Stage) (reply b : Bool) → isRunning g ≡ false
-    → chipAfter n c (judge b 2 (turnTold (turnOf total plan s g reply .answer))) ≡ c
+quiet : (n : ℕ) (c : Chip) (s : Publisher) (g : Stage) (reply b : Bool) → isRunning g ≡ false
+    → chipAfter n c (judge b 2 (turnTold (turnOf (totalIn s) (planIn s) s g reply .answer))) ≡ c
 unfolding isRunning turnOf
-quiet n c plan s (Running k good) reply b h = absurd (let z : _≡_ {A = ℕ} 1 0 = ap (λ (b : Bool). cond b 1 0) h in omega arith)
-quiet n c plan s Done reply true h = refl
-quiet n c plan s Done reply false h = refl
-quiet n c plan s (Stopped r) reply true h = refl
-quiet n c plan s (Stopped r) reply false h = refl
+quiet n c s (Running k good) reply b h = absurd (let z : _≡_ {A = ℕ} 1 0 = ap (λ (b : Bool). cond b 1 0) h in omega arith)
+quiet n c s Done reply true h = refl
+quiet n c s Done reply false h = refl
+quiet n c s (Stopped r) reply true h = refl
+quiet n c s (Stopped r) reply false h = refl
 
 module _ (n : ℕ) where
-  same : (s : Publisher) (reply : Bool) → isRunning (s .stage) ≡ false → called n s reply ≡ s
+  same : (s : Publisher) (reply : Bool) → isRunning (s .stage) ≡ false → callState n s reply ≡ s
   unfolding callState
-  same s reply h = cond-same (inRange total n s) _ s (turn-same (planIn s) s (s .stage) reply h)
+  same s reply h = cond-same (inRange n s) _ s (turn-same s (s .stage) reply h)
 
-  no-event : (c : Chip) (s : Publisher) (reply : Bool) → isRunning (s .stage) ≡ false → chipAfter n c (told n s reply) ≡ c
+  no-event : (c : Chip) (s : Publisher) (reply : Bool) → isRunning (s .stage) ≡ false → chipAfter n c (callAnswer n s reply) ≡ c
   unfolding callAnswer
-  no-event c s reply h = quiet n c (planIn s) s (s .stage) reply (inRange total n s) h
+  no-event c s reply h = quiet n c s (s .stage) reply (inRange n s) h
 
   image-same : (j : Joined) (img : List ℕ) → isRunning (j .publisher .stage) ≡ false → turnedImage n j img ≡ img
   unfolding turnedImage handedImage

@@ -1,11 +1,12 @@
 -- A whole update on an image: the publisher joined to a chip, and what the image then reads as. n is the page count.
-use Prim.Native.Nat.{ℕ, zero, suc, _<_}
+use Prim.Native.Nat.{ℕ, zero, suc, _<_, _≤_}
 use mathlib.Core.Path.{_≡_}
 use mathlib.Core.Bool.{Bool, true, false, cond}
 use mathlib.Core.List.{List, [], _∷_}
 use lib.Dec.{ltb}
 use Rattle.terms.specs.Told.{Told, accepted, refusing}
 use Rattle.terms.specs.declared.address.Page.{Page}
+use Rattle.terms.specs.declared.write_mode.WriteMode.{WriteMode}
 use Rattle.bus.specs.declared.Event.{Event}
 use Rattle.master.specs.Next.{Next}
 use Rattle.update_laws.specs.Update.{readOf, moved}
@@ -15,10 +16,12 @@ use Rattle.publisher.specs.declared.Publisher.{Publisher}
 use Rattle.publisher.specs.declared.Stage.{Stage}
 use Rattle.publisher.specs.declared.Stage.the-variants.{Running, Done, Stopped}
 use Rattle.publisher.specs.Start.{choiceOf, ready}
+use Rattle.publisher.specs.Call.{callAnswer, callState}
 use Rattle.chip.specs.Event.{powerUp}
 use Rattle.chip.specs.Run.{Chip, next, lineAt}
-use Rattle.plan_laws.specs.Plan.{shown}
-use Rattle.call_laws.specs.Calls.{called, told, chipAfter, lastDrawn}
+use Rattle.plan.specs.Plan.{totalOf, shownOf}
+use Rattle.plan_laws.specs.Plan.{imageLeft}
+use Rattle.call_laws.specs.Calls.{chipAfter, lastDrawn}
 use Rattle.update.specs.declared.Joined.{Joined}
 use Rattle.update.specs.declared.Updated.{Updated}
 use Rattle.update.specs.declared.Updated.the-variants.{Refused as UpdateRefused, Ran}
@@ -44,13 +47,13 @@ handedImage n j answer img = chipAfter n (chipOf j img) answer .image
 
 -- one later call, with the reply that the last event drew
 abbrev pub calling : ℕ → Joined → Joined
-calling n j = record { publisher = called n (j .publisher) (j .reply); chip = j .chip; reply = j .reply }
+calling n j = record { publisher = callState n (j .publisher) (j .reply); chip = j .chip; reply = j .reply }
 
 unfoldable pub turned : ℕ → Joined → List ℕ → Joined
-turned n j img = handedOn n (calling n j) (told n (j .publisher) (j .reply)) img
+turned n j img = handedOn n (calling n j) (callAnswer n (j .publisher) (j .reply)) img
 
 unfoldable pub turnedImage : ℕ → Joined → List ℕ → List ℕ
-turnedImage n j img = handedImage n (calling n j) (told n (j .publisher) (j .reply)) img
+turnedImage n j img = handedImage n (calling n j) (callAnswer n (j .publisher) (j .reply)) img
 
 -- a publisher that has not ended
 unfoldable pub isRunning : Stage → Bool
@@ -77,20 +80,22 @@ abbrev pub choiceAnswer : Choice → Told (List ℕ)
 choiceAnswer (Refused r) = refusing r
 choiceAnswer (Accepted l t) = accepted (l .0 ∷ t .0 ∷ [])
 
--- 1, 10, 3, 4, 5, 9, 8, or L and T
+-- 1, 10, 3, 4, 5, 9, 8, or L and T, in both modes
 abbrev pub updateAnswer : ℕ → List ℕ → List ℕ → ℕ → Told (List ℕ)
 updateAnswer n img new p = choiceAnswer (choiceOf n img new p)
 
-abbrev pub choiceImage : ℕ → List ℕ → List ℕ → List ℕ → ℕ → Choice → List ℕ
-choiceImage n number img new events (Refused r) = img
-choiceImage n number img new events (Accepted l t) = runFor n events (opened (ready n img new l t) number) img
+abbrev pub choiceImage : ℕ → WriteMode → List ℕ → List ℕ → List ℕ → ℕ → Choice → List ℕ
+choiceImage n mode number img new events (Refused r) = img
+choiceImage n mode number img new events (Accepted l t) = runFor n events (opened (ready n mode img new l t) number) img
 
-abbrev pub updatedImage : ℕ → List ℕ → List ℕ → List ℕ → ℕ → ℕ → List ℕ
-updatedImage n number img new p events = choiceImage n number img new events (choiceOf n img new p)
+abbrev pub updatedImage : ℕ → WriteMode → List ℕ → List ℕ → List ℕ → ℕ → ℕ → List ℕ
+updatedImage n mode number img new p events = choiceImage n mode number img new events (choiceOf n img new p)
 
 -- What the image then reads as: after a refusal it is the image as it was; else every page but T reads as at the start while fewer events
--- than the visible one have been let through, and from it on as demand 3 says.
-pub record ReadsAs (n : ℕ) (img new : List ℕ) (p events : ℕ) (after : List ℕ) : Type 0 where
+-- than the visible one have been let through, and from it on as demand 3 says; and where all have been let through, it is the image that a
+-- whole update leaves, which is the same in both modes.
+pub record ReadsAs (n : ℕ) (mode : WriteMode) (img new : List ℕ) (p events : ℕ) (after : List ℕ) : Type 0 where
   pub refused : (k : ℕ) (values : List ℕ) → updateAnswer n img new p ≡ Rattle.terms.specs.Told.refused k values → after ≡ img
   pub reads : (l t : Page) → choiceOf n img new p ≡ Accepted l t → (q : ℕ) → q < n → (q ≡ t .0 → ⊥)
-      → readOf n after q ≡ cond (ltb events shown) (readOf n img q) (moved (l .0) (t .0) new (readOf n img q))
+      → readOf n after q ≡ cond (ltb events (shownOf mode)) (readOf n img q) (moved (l .0) (t .0) new (readOf n img q))
+  pub whole : (l t : Page) → choiceOf n img new p ≡ Accepted l t → totalOf mode ≤ events → after ≡ imageLeft n img new l t

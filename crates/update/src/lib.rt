@@ -12,6 +12,7 @@ use publisher::Stage;
 use publisher::StartAnswer;
 use terms::address::Page;
 use terms::refusal::Refusal;
+use terms::write_mode::WriteMode;
 
 // A publisher joined to a chip, and the reply that the last event drew.
 pub struct Joined {
@@ -116,12 +117,19 @@ fn run(start: Joined, calls: u32, image: &mut [u8])
 
 // The update of a page of the chip with this number whose memory is the image, cut after so many events (or whole, where they are more
 // than the plan has). Refused, with the image untouched: 1, 10, 3, 4, 5, 9, 8. Else L and T, and the image as the cut leaves it.
-pub fn update(image: &mut [u8], number: [u8; 8], new: &[u8], page: Page, events: u32) -> Updated
+pub fn update(
+    mode: WriteMode,
+    image: &mut [u8],
+    number: [u8; 8],
+    new: &[u8],
+    page: Page,
+    events: u32,
+) -> Updated
     ensures answer { λ r. ⌜ updateTold r ≡ updateAnswer 64 (now (image .entry)) (now (new .entry)) (page .0) ⌝ }
-    ensures image { λ r. ⌜ now (image .exit) ≡ updatedImage 64 number (now (image .entry)) (now (new .entry)) (page .0) events ⌝ }
-    ensures reads { λ r. ⌜ ReadsAs 64 (now (image .entry)) (now (new .entry)) (page .0) events (now (image .exit)) ⌝ }
+    ensures image { λ r. ⌜ now (image .exit) ≡ updatedImage 64 mode number (now (image .entry)) (now (new .entry)) (page .0) events ⌝ }
+    ensures reads { λ r. ⌜ ReadsAs 64 mode (now (image .entry)) (now (new .entry)) (page .0) events (now (image .exit)) ⌝ }
 {
-    let started = publisher::start(image, new, page);
+    let started = publisher::start(mode, image, new, page);
     let answer = started.answer;
     let state = started.state;
     match answer {

@@ -1,12 +1,14 @@
 //! A whole update, cut after every number of events.
 
 use super::Digest;
+use crate::chip::WriteMode;
 use crate::memory::blank_image;
 use crate::publisher::{update, Publisher};
 use crate::random::{used_image, Generator};
 
-/// After 0 to 1,225 events, of which there are 1,222.
-fn cuts(group: &str, seed: u64, blank: bool) -> String {
+/// After each number of events below `lines`, some of which are more than
+/// there are in the update.
+fn cuts(group: &str, seed: u64, blank: bool, mode: WriteMode, lines: usize) -> String {
     let mut generator = Generator::at(seed);
     let image = if blank {
         blank_image()
@@ -15,12 +17,12 @@ fn cuts(group: &str, seed: u64, blank: bool) -> String {
     };
     let new_bytes: [u8; 32] = generator.bytes();
     let page = generator.below(64) as u8;
-    let pages = Publisher::start(&image, &new_bytes, page).map(|publisher| publisher.pages());
-    (0..1226)
+    let pages = Publisher::start(&image, &new_bytes, page, mode).map(|publisher| publisher.pages());
+    (0..lines)
         .map(|events| {
             let mut digest = Digest::new();
             digest.answer(pages.map(|pages| [pages.l, pages.t]));
-            match update(&image, &new_bytes, page, Some(events)) {
+            match update(&image, &new_bytes, page, mode, Some(events)) {
                 Ok(run) => digest.bytes(&run.image),
                 Err(_) => digest.bytes(&image),
             }
@@ -29,12 +31,25 @@ fn cuts(group: &str, seed: u64, blank: bool) -> String {
         .collect()
 }
 
-pub fn all() -> String {
+/// The ordinary update has 1,222 events.
+pub fn ordinary() -> String {
+    let cuts = |group, seed, blank| cuts(group, seed, blank, WriteMode::Ordinary, 1226);
     [
         cuts("cut-a", 0x6375_7420_626C_616E, true),
         cuts("cut-b", 0x6375_7420_7573_6540, false),
         cuts("cut-c", 0x6375_7420_7573_656E, false),
         cuts("cut-d", 0x6375_7420_7573_6524, false),
+    ]
+    .concat()
+}
+
+/// The quick update has 678 events. In quick-b the page asked for is already
+/// redirected, over four hops.
+pub fn quick() -> String {
+    let cuts = |group, seed, blank| cuts(group, seed, blank, WriteMode::Quick, 682);
+    [
+        cuts("quick-a", 0x7175_6963_6B20_626C, true),
+        cuts("quick-b", 0x7175_6963_6B20_757E, false),
     ]
     .concat()
 }

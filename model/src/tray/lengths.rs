@@ -4,7 +4,7 @@
 use super::page::read_twice;
 use super::world::{registration, Source, World};
 use super::{copy_page, Digest};
-use crate::chip::{Chip, Event};
+use crate::chip::{Chip, Event, WriteMode};
 use crate::free::{free_count, free_page, redirected_count};
 use crate::memory::{check_image, check_page, page_bytes, IMAGE_LENGTH};
 use crate::publisher::{update, Outcome, Publisher};
@@ -37,8 +37,9 @@ fn readers(image: &[u8], page: u8, digest: &mut Digest) {
 /// The bytes lent as a buffer for the page, then as the new page.
 fn lent(image: &mut [u8], bytes: &mut [u8], page: u8, digest: &mut Digest) {
     digest.answer(copy_page(image, page, bytes).map(|()| []));
-    digest.answer(Publisher::start(image, bytes, page).map(|_| []));
-    match update(image, bytes, page, None) {
+    let mode = WriteMode::Ordinary;
+    digest.answer(Publisher::start(image, bytes, page, mode).map(|_| []));
+    match update(image, bytes, page, mode, None) {
         Ok(run) => {
             image.copy_from_slice(&run.image);
             match run.outcome {

@@ -2,7 +2,7 @@
 
 use super::world::{registration, Source, World};
 use super::{drawn_page, either_image, Digest};
-use crate::chip::Chip;
+use crate::chip::{Chip, WriteMode};
 use crate::memory::{blank_image, IMAGE_LENGTH};
 use crate::publisher::Publisher;
 use crate::random::Generator;
@@ -25,9 +25,13 @@ fn alter(image: &mut [u8], digest: &Digest) {
     }
 }
 
-/// A whole update: 1,222 events, the end, and some calls more.
-fn run(mut master: Publisher, world: &mut World, digest: &mut Digest) {
-    for _ in 0..1230 {
+/// A whole update: 1,222 events or 678, the end, and some calls more.
+fn run(mut master: Publisher, mode: WriteMode, world: &mut World, digest: &mut Digest) {
+    let calls = match mode {
+        WriteMode::Ordinary => 1230,
+        WriteMode::Quick => 690,
+    };
+    for _ in 0..calls {
         match master.call(world.reply) {
             Answer::Event(event) => {
                 digest.event(event);
@@ -45,21 +49,27 @@ fn run(mut master: Publisher, world: &mut World, digest: &mut Digest) {
     }
 }
 
-fn case(group: &str, number: u64, hostile: bool, generator: &mut Generator) -> String {
+fn case(
+    group: &str,
+    number: u64,
+    mode: WriteMode,
+    hostile: bool,
+    generator: &mut Generator,
+) -> String {
     let mut digest = Digest::at(generator.number());
     let image = drawn_image(generator);
     let new_bytes: [u8; 32] = generator.bytes();
     let registration = registration(generator);
     let source = Source::drawn(generator, 4000, hostile);
     let page = drawn_page(generator);
-    let start = Publisher::start(&image, &new_bytes, page);
+    let start = Publisher::start(&image, &new_bytes, page, mode);
     let chip = Chip::power_up(registration, image).expect("the image has its length");
     let mut world = World::new(chip, source);
     match start {
         Ok(master) => {
             digest.answer(Ok([]));
             alter(&mut world.chip.image, &digest);
-            run(master, &mut world, &mut digest);
+            run(master, mode, &mut world, &mut digest);
         }
         Err(refusal) => digest.refusal(refusal),
     }
@@ -67,9 +77,9 @@ fn case(group: &str, number: u64, hostile: bool, generator: &mut Generator) -> S
     digest.line(group, number)
 }
 
-pub fn all(group: &str, cases: u64, hostile: bool) -> String {
-    let mut generator = Generator::at(0x7075_626C_6973_6865);
+pub fn all(group: &str, seed: u64, cases: u64, mode: WriteMode, hostile: bool) -> String {
+    let mut generator = Generator::at(seed);
     (0..cases)
-        .map(|number| case(group, number, hostile, &mut generator))
+        .map(|number| case(group, number, mode, hostile, &mut generator))
         .collect()
 }

@@ -2,7 +2,7 @@
 
 use super::redirection;
 use crate::bits::{bits_of, bytes_of};
-use crate::chip::{Chip, Event};
+use crate::chip::{Chip, Event, MemoryCommand, WriteMode};
 use crate::crc::{crc16_sent, crc8};
 use crate::memory::{blank_image, check_page, page_bytes, DATA_LENGTH, USED_BITMAP};
 use crate::number_read::read_number;
@@ -10,6 +10,14 @@ use crate::publisher::{update, Outcome};
 use crate::random::chain_image;
 use crate::refusal::Refusal;
 use crate::walk::{walk, Final, Verdict};
+
+/// What a row of the quick mode begins with.
+fn mode_text(mode: WriteMode) -> &'static str {
+    match mode {
+        WriteMode::Ordinary => "",
+        WriteMode::Quick => "quick, ",
+    }
+}
 
 fn refusal_text(refusal: Refusal) -> String {
     format!("refused {}", refusal.number())
@@ -72,8 +80,10 @@ fn begun(image: Vec<u8>, bytes: &[u8]) -> Chip {
 }
 
 /// Bytes written at data address 25h, on page 1; the last with a bit of the
-/// start address set that the chip drops.
-fn writes() -> String {
+/// start address set that the chip drops. A quick write has no CRC.
+fn writes(mode: WriteMode) -> String {
+    let command = MemoryCommand::WriteMemory(mode).byte();
+    let quick = mode_text(mode);
     let mut text = String::new();
     for (high, old, sent, protected) in [
         (0x00, 0xF0, 0x0F, false),
@@ -86,15 +96,18 @@ fn writes() -> String {
         if protected {
             image[DATA_LENGTH] = 0xFD;
         }
-        let mut chip = begun(image, &[0x0F, 0x25, high, sent]);
-        let crc = read_text(&mut chip, 2);
+        let mut chip = begun(image, &[command, 0x25, high, sent]);
+        let crc = match mode {
+            WriteMode::Ordinary => format!(" crc{},", read_text(&mut chip, 2)),
+            WriteMode::Quick => String::new(),
+        };
         chip.event(Event::Pulse);
         let back = read_text(&mut chip, 1);
         let held = bytes_text(&chip.image[0x25..0x26]);
         let protected = if protected { "a protected " } else { "" };
         let start = if high == 0 { "" } else { " from start 08 25" };
         text += &format!(
-            "{sent:02x} written over {protected}{old:02x}{start}: crc{crc}, read back{back}, held{held}\n"
+            "{quick}{sent:02x} written over {protected}{old:02x}{start}:{crc} read back{back}, held{held}\n"
         );
     }
     text
@@ -125,6 +138,52 @@ fn starts() -> String {
     text
 }
 
+/// Two bytes by a quick write from a start address: the second beyond the
+/// last address, or both, or the start with a bit set that the chip drops.
+fn quick_starts() -> String {
+    let mut image = blank_image();
+    image[0x000] = 0x3C;
+    image[0x7FF] = 0x5A;
+    let mut text = String::new();
+    for (command, high, low) in [
+        (0xF3, 0x07, 0xFF),
+        (0xF3, 0x08, 0x00),
+        (0xF5, 0x01, 0x3F),
+        (0xF5, 0x01, 0x40),
+        (0xF5, 0x09, 0x3F),
+    ] {
+        let mut chip = begun(image.clone(), &[command, low, high]);
+        let mut back = String::new();
+        for sent in [0x0F, 0x33] {
+            send(&mut chip, &[sent]);
+            chip.event(Event::Pulse);
+            back += &read_text(&mut chip, 1);
+        }
+        text += &format!(
+            "command {command:02x} start {high:02x} {low:02x}, 0f 33 written: read back{back}\n"
+        );
+    }
+    text
+}
+
+/// A quick write of 0Fh over 5Ah at data address 25h, with its pulse after so
+/// many slots of data: one short, the whole byte, and one slot more.
+fn quick_pulses() -> String {
+    let mut text = String::new();
+    for slots in [7, 8, 9] {
+        let mut image = blank_image();
+        image[0x25] = 0x5A;
+        let mut chip = begun(image, &[0xF3, 0x25, 0x00]);
+        for &bit in &bits_of(&[0x0F, 0xFF])[..slots] {
+            chip.event(Event::Slot(bit));
+        }
+        chip.event(Event::Pulse);
+        let held = bytes_text(&chip.image[0x25..0x26]);
+        text += &format!("quick, 0f over 5a with the pulse after {slots} slots: held{held}\n");
+    }
+    text
+}
+
 fn zero_number() -> String {
     let number = [0; 8];
     let mut chip = Chip::power_up(number, blank_image()).expect("the image has its length");
@@ -136,44 +195,47 @@ fn zero_number() -> String {
     format!("eight zero bytes as a number: crc-8{crc}, {end}\n")
 }
 
-/// Page 0 holds 11h in every byte, and is superseded by 22h in every byte.
-fn cuts() -> String {
+/// Page 0 holds 11h in every byte, and is superseded by 22h in every byte. The
+/// cut comes before and after the pulse that makes this visible.
+fn cuts(mode: WriteMode, pulse: usize) -> String {
+    let quick = mode_text(mode);
     let mut text = String::new();
-    for (events, final_page) in [(1212, 0), (1213, 1)] {
+    for (events, final_page) in [(pulse - 1, 0), (pulse, 1)] {
         let mut image = blank_image();
         image[..32].fill(0x11);
-        let left = update(&image, &[0x22; 32], 0, Some(events))
+        let left = update(&image, &[0x22; 32], 0, mode, Some(events))
             .expect("there is a free page")
             .image;
         let verdict = walk_text(&left, 0);
         let page = check_page(final_page).expect("there is such a page");
         let bytes = bytes_text(page_bytes(&left, page));
-        text += &format!("cut after event {events}: page 0 {verdict},{bytes}\n");
+        text += &format!("{quick}cut after event {events}: page 0 {verdict},{bytes}\n");
     }
     text
 }
 
-fn update_text(image: &[u8], page: u8) -> String {
-    match update(image, &[0x22; 32], page, None).map(|run| run.outcome) {
+fn update_text(image: &[u8], page: u8, mode: WriteMode) -> String {
+    match update(image, &[0x22; 32], page, mode, None).map(|run| run.outcome) {
         Ok(Outcome::Published(pages)) => format!("L = {}, T = {}", pages.l, pages.t),
         Ok(Outcome::Cut) => String::from("cut"),
         Ok(Outcome::Refused(refusal)) | Err(refusal) => refusal_text(refusal),
     }
 }
 
-fn updates() -> String {
+fn updates(mode: WriteMode) -> String {
+    let quick = mode_text(mode);
     let mut image = blank_image();
-    let zero = update_text(&image, 0);
-    let one = update_text(&image, 1);
+    let zero = update_text(&image, 0, mode);
+    let one = update_text(&image, 1, mode);
     let bitmap = DATA_LENGTH + usize::from(USED_BITMAP);
     // Pages 2 to 63 are marked used.
     image[bitmap..bitmap + 8].fill(0x00);
     image[bitmap] = 0x03;
-    let full = update_text(&image, 1);
+    let full = update_text(&image, 1, mode);
     format!(
-        "blank image, p = 0: {zero}\n\
-         blank image, p = 1: {one}\n\
-         the same with pages 2 to 63 marked used, p = 1: {full}\n"
+        "{quick}blank image, p = 0: {zero}\n\
+         {quick}blank image, p = 1: {one}\n\
+         {quick}the same with pages 2 to 63 marked used, p = 1: {full}\n"
     )
 }
 
@@ -181,12 +243,17 @@ pub fn all() -> String {
     let none = bytes_text(&crc16_sent(&[]));
     [
         walks(),
-        writes(),
+        writes(WriteMode::Ordinary),
         format!("crc-16 of no bytes is sent as{none}\n"),
         starts(),
         zero_number(),
-        cuts(),
-        updates(),
+        cuts(WriteMode::Ordinary, 1213),
+        updates(WriteMode::Ordinary),
+        writes(WriteMode::Quick),
+        quick_starts(),
+        quick_pulses(),
+        cuts(WriteMode::Quick, 669),
+        updates(WriteMode::Quick),
     ]
     .concat()
 }

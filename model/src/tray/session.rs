@@ -75,10 +75,13 @@ impl Session<'_> {
         }
     }
 
-    fn write_byte(&mut self) {
+    /// The CRC is read where the command has one.
+    fn write_byte(&mut self, command: u8) {
         let byte = byte_to_write(self.generator);
         self.send(byte);
-        self.read(16);
+        if [0x0F, 0x55].contains(&command) {
+            self.read(16);
+        }
         if !self.generator.once_in(16) {
             self.event(Event::Pulse);
         }
@@ -91,9 +94,9 @@ impl Session<'_> {
         self.send(command);
         self.send(low);
         self.send(high);
-        if [0x0F, 0x55].contains(&command) {
+        if [0x0F, 0x55, 0xF3, 0xF5].contains(&command) {
             for _ in 0..1 + self.generator.below(9) {
-                self.write_byte();
+                self.write_byte(command);
             }
         } else {
             let most = if self.generator.once_in(24) {
@@ -130,13 +133,15 @@ impl Session<'_> {
 }
 
 fn command(generator: &mut Generator) -> u8 {
-    match generator.below(11) {
+    match generator.below(15) {
         0 => generator.byte(),
         1 | 2 => 0xF0,
         3 | 4 => 0xAA,
         5 | 6 => 0xA5,
         7 | 8 => 0x0F,
-        _ => 0x55,
+        9 | 10 => 0x55,
+        11 | 12 => 0xF3,
+        _ => 0xF5,
     }
 }
 

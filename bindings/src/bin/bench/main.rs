@@ -11,10 +11,12 @@ mod session;
 use std::hint::black_box;
 use std::time::{Duration, Instant};
 
-use ds2505::{calls, ANSWER_SIZE, CHIP_STATE_SIZE, NO_EVENT, PAGE_SIZE, PAGE_STATE_SIZE};
+use ds2505::{
+    calls, Published, WriteMode, ANSWER_SIZE, CHIP_STATE_SIZE, NO_EVENT, PAGE_SIZE, PAGE_STATE_SIZE,
+};
 use ds2505_model::chip::Chip;
 use ds2505_model::page_read::read_page;
-use ds2505_model::publisher::{update, Outcome};
+use ds2505_model::publisher::{update, Outcome, Run};
 use ds2505_model::random::{chain_image, used_image, Generator};
 use ds2505_model::walk::Final;
 
@@ -228,36 +230,88 @@ fn page_reads() {
     );
 }
 
+/// A page to update: the image, and the new bytes for page 5.
+struct Update {
+    image: Vec<u8>,
+    new: [u8; PAGE_SIZE],
+}
+
+impl Update {
+    fn some() -> Update {
+        Update {
+            image: chain_image(&[5, 17, 3, 40]),
+            new: Generator::new(2).bytes(),
+        }
+    }
+
+    fn proved(&self, mode: WriteMode) -> (Vec<u8>, Published) {
+        let mut image = self.image.clone();
+        let page = black_box(5);
+        let pages = ds2505::update(&mut image, &NUMBER, &self.new, page, mode, 1222).unwrap();
+        (image, pages)
+    }
+
+    fn model(&self, mode: WriteMode) -> Run {
+        let mode = match mode {
+            WriteMode::Ordinary => ds2505_model::chip::WriteMode::Ordinary,
+            WriteMode::Quick => ds2505_model::chip::WriteMode::Quick,
+        };
+        update(&self.image, &self.new, black_box(5), mode, None).unwrap()
+    }
+
+    /// Both must give the same: how many events there are.
+    fn events(&self, mode: WriteMode) -> usize {
+        let (left, pages) = self.proved(mode);
+        let run = self.model(mode);
+        let Outcome::Published(expected) = run.outcome else {
+            panic!("{:?}", run.outcome);
+        };
+        assert_eq!((pages.l, pages.t), (expected.l, expected.t));
+        assert_eq!(left, run.image);
+        run.events
+    }
+}
+
 /// (c) A whole update.
 fn updates() {
-    let image = chain_image(&[5, 17, 3, 40]);
-    let new: [u8; 32] = Generator::new(2).bytes();
-    let run = update(&image, &new, 5, None).unwrap();
-    let Outcome::Published(pages) = run.outcome else {
-        panic!("{:?}", run.outcome);
-    };
-    let proved = || {
-        let mut image = image.clone();
-        let mut answer = [0; ANSWER_SIZE];
-        let code = calls::update(&mut image, &NUMBER, &new, black_box(5), 1222, &mut answer);
-        assert_eq!(code, 0);
-        (image, answer)
-    };
-    let (left, answer) = proved();
-    assert_eq!(answer[..3], [NO_EVENT, pages.l, pages.t]);
-    assert_eq!(left, run.image);
-
+    let page = Update::some();
+    let events = page.events(WriteMode::Ordinary);
     compare(
-        &format!("(c) whole update of a page: {} events", run.events),
-        run.events,
+        &format!("(c) whole update of a page: {events} events"),
+        events,
         "events",
         6000,
         vec![
             timed("proved: ds2505_update", || {
-                black_box(proved());
+                black_box(page.proved(WriteMode::Ordinary));
             }),
             timed("second model: publisher and chip", || {
-                black_box(update(&image, &new, black_box(5), None).unwrap());
+                black_box(page.model(WriteMode::Ordinary));
+            }),
+        ],
+    );
+}
+
+/// (e) A whole quick update, against an ordinary one too. The speed is that of
+/// the new bytes, since the events are not as many.
+fn quick_updates() {
+    let page = Update::some();
+    let quick = page.events(WriteMode::Quick);
+    let ordinary = page.events(WriteMode::Ordinary);
+    compare(
+        &format!("(e) whole quick update of a page: {quick} events"),
+        PAGE_SIZE,
+        "bytes",
+        6000,
+        vec![
+            timed("proved: ds2505_update_quick", || {
+                black_box(page.proved(WriteMode::Quick));
+            }),
+            timed("second model: quick publisher and chip", || {
+                black_box(page.model(WriteMode::Quick));
+            }),
+            timed(&format!("proved: ds2505_update, {ordinary} events"), || {
+                black_box(page.proved(WriteMode::Ordinary));
             }),
         ],
     );
@@ -313,4 +367,5 @@ fn main() {
     page_reads();
     updates();
     crcs();
+    quick_updates();
 }

@@ -36,12 +36,19 @@ enum Memory {
     Status,
 }
 
+/// Ordinary writes send a CRC before the pulse, quick ones don't.
+#[derive(Clone, Copy)]
+enum Mode {
+    Ordinary,
+    Quick,
+}
+
 #[derive(Clone, Copy)]
 enum Command {
     ReadMemory,
     ReadStatus,
     ExtendedRead,
-    Write(Memory),
+    Write(Mode, Memory),
 }
 
 #[derive(Clone, Copy)]
@@ -49,7 +56,7 @@ enum Incoming {
     Command,
     AddressLow(Command),
     AddressHigh(Command, u8),
-    Data(Memory, u16),
+    Data(Mode, Memory, u16),
 }
 
 #[derive(Clone, Copy)]
@@ -63,7 +70,7 @@ enum Outgoing {
     PageByte(u16),
     PageCrc(u16),
     WriteCrc(Memory, u16, u8),
-    ReadBack(Memory, u16),
+    ReadBack(Mode, Memory, u16),
 }
 
 #[derive(Clone, Copy)]
@@ -101,6 +108,7 @@ enum Stage {
         crc: u16,
     },
     Armed {
+        mode: Mode,
         memory: Memory,
         address: u16,
         byte: u8,
@@ -206,8 +214,10 @@ fn received(what: Incoming, byte: u8, register: u16, image: &[u8; IMAGE_LENGTH])
                 0xF0 => Command::ReadMemory,
                 0xAA => Command::ReadStatus,
                 0xA5 => Command::ExtendedRead,
-                0x0F => Command::Write(Memory::Data),
-                0x55 => Command::Write(Memory::Status),
+                0x0F => Command::Write(Mode::Ordinary, Memory::Data),
+                0x55 => Command::Write(Mode::Ordinary, Memory::Status),
+                0xF3 => Command::Write(Mode::Quick, Memory::Data),
+                0xF5 => Command::Write(Mode::Quick, Memory::Status),
                 _ => return Stage::Silent,
             };
             receive(Incoming::AddressLow(command), register)
@@ -216,7 +226,7 @@ fn received(what: Incoming, byte: u8, register: u16, image: &[u8; IMAGE_LENGTH])
         Incoming::AddressHigh(command, low) => {
             let address = u16::from_le_bytes([low, byte]);
             let limit = match command {
-                Command::ReadStatus | Command::Write(Memory::Status) => STATUS_LENGTH,
+                Command::ReadStatus | Command::Write(_, Memory::Status) => STATUS_LENGTH,
                 _ => DATA_LENGTH,
             };
             if address >= limit {
@@ -234,12 +244,20 @@ fn received(what: Incoming, byte: u8, register: u16, image: &[u8; IMAGE_LENGTH])
                     register,
                 ),
                 Command::ExtendedRead => redirection(image, address, register),
-                Command::Write(memory) => receive(Incoming::Data(memory, address), register),
+                Command::Write(mode, memory) => {
+                    receive(Incoming::Data(mode, memory, address), register)
+                }
             }
         }
-        Incoming::Data(memory, address) => {
+        Incoming::Data(Mode::Ordinary, memory, address) => {
             send_crc(Outgoing::WriteCrc(memory, address, byte), register)
         }
+        Incoming::Data(mode, memory, address) => Stage::Armed {
+            mode,
+            memory,
+            address,
+            byte,
+        },
     }
 }
 
@@ -291,17 +309,18 @@ fn sent(what: Outgoing, register: u16, image: &[u8; IMAGE_LENGTH]) -> Stage {
             }
         }
         Outgoing::WriteCrc(memory, address, byte) => Stage::Armed {
+            mode: Mode::Ordinary,
             memory,
             address,
             byte,
         },
-        Outgoing::ReadBack(memory, address) => {
+        Outgoing::ReadBack(mode, memory, address) => {
             let limit = match memory {
                 Memory::Data => DATA_LENGTH,
                 Memory::Status => STATUS_LENGTH,
             };
             if address + 1 < limit {
-                receive(Incoming::Data(memory, address + 1), address + 1)
+                receive(Incoming::Data(mode, memory, address + 1), address + 1)
             } else {
                 Stage::Silent
             }
@@ -417,6 +436,7 @@ pub fn run(number: [u8; 8], events: &[u8], image: &mut [u8; IMAGE_LENGTH], repli
             }
             3 => {
                 if let Stage::Armed {
+                    mode,
                     memory,
                     address,
                     byte,
@@ -424,7 +444,7 @@ pub fn run(number: [u8; 8], events: &[u8], image: &mut [u8; IMAGE_LENGTH], repli
                 {
                     program(image, memory, address, byte);
                     stage = Stage::Send {
-                        what: Outgoing::ReadBack(memory, address),
+                        what: Outgoing::ReadBack(mode, memory, address),
                         left: 8,
                         bits: u16::from(target_byte(image, memory, address)),
                         crc: 0,

@@ -25,7 +25,7 @@ returns-5 c = simp (c .before .before .refusal .given .1, c .is-page .ensures)
 
 returns-6 : tie.Need-returns-6
 unfolding isStop
-returns-6 c = simp (c .enum-told5 .given .1)
+returns-6 c = simp (c .before .enum-told5 .given .1) (c .reads-crc .ensures)
 
 returns-7 : tie.Need-returns-7
 unfolding isStop
@@ -70,6 +70,7 @@ is-stop-spec =
     (λ c. search needs)
     (λ c κs. search needs)
     (λ c. search needs)
+    (λ c κs. search needs)
     (λ c. search needs)
     (λ c. search needs)
     (λ c. search needs)

@@ -5,7 +5,7 @@ use Rattle.publisher.proofs.stage_in_range.Tie as tie
 
 returns : tie.Need-returns
 unfolding stageInRange
-returns c = simp (c .before .stage .given .1)
+returns c = simp (c .before .before .stage .given .1, c .total .ensures)
 
 returns-2 : tie.Need-returns-2
 unfolding stageInRange
@@ -20,6 +20,7 @@ stage-in-range-spec =
     tie.close
     (tie.spec
     (λ c. search needs)
+    (λ c κs. search needs)
     (λ c. search needs)
     (λ c. search needs)
     (λ c κs. search needs)

@@ -1,11 +1,10 @@
 use Rattle.publisher.specs.Call.{stepOf}
-use Rattle.plan.specs.Plan.{planOf}
 use borrow.Author.Needs.{needs}
 use Rattle.publisher.proofs.step_of.Statement.{statement}
 use Rattle.publisher.proofs.step_of.Tie as tie
 
 returns : tie.Need-returns
-unfolding planOf stepOf
+unfolding stepOf
 returns c = c .step-at .ensures
 
 pub step-of-spec : {M : Type 1} → statement M

@@ -1,16 +1,15 @@
 use borrow.Author.Tests.{eq-eqb, ne-eqb}
 use Rattle.publisher.specs.Call.{wantedOf}
-use Rattle.plan.specs.Plan.{planOf}
 use borrow.Author.Needs.{needs}
 use Rattle.publisher.proofs.wanted_of.Statement.{statement}
 use Rattle.publisher.proofs.wanted_of.Tie as tie
 
 returns : tie.Need-returns
-unfolding planOf wantedOf
+unfolding wantedOf
 returns c = simp (eq-eqb _ _ (c .if1 .taken))
 
 returns-2 : tie.Need-returns-2
-unfolding planOf wantedOf
+unfolding wantedOf
 returns-2 c = simp (ne-eqb _ _ (c .before .if1 .left), c .step-of .ensures)
 
 pub wanted-of-spec : {M : Type 1} → statement M

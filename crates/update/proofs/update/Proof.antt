@@ -10,7 +10,7 @@ returns : tie.Need-returns
 returns c =
     let at = c .before .before .before .before .before .before .before .before in
     let started = c .before .before .before .before .start in
-    ends-refused (at .args .number) (now (at .args .image)) (now (at .args .new)) (at .args .page .0) (at .args .events) (at .good .1 .0 .1 .0 .1)
+    ends-refused (at .args .mode) (at .args .number) (now (at .args .image)) (now (at .args .new)) (at .args .page .0) (at .args .events) (at .good .1 .1 .0 .1 .0 .1)
     (λ i. c .before .before .before .before .before .before .shared-slice-known .given i .fits) (c .before .answer .given .0 .0)
     (ap startTold (sym (c .before .answer .given .1)) ∙ started .ensures .0)
 
@@ -18,7 +18,7 @@ returns-2 : tie.Need-returns-2
 returns-2 c =
     let at = c .before .before .before .before .before .before .before .before .before .before .before .before .before .before in
     let started = c .before .before .before .before .before .before .before .before .before .before .start in
-    ends-ready (at .args .number) (now (at .args .image)) (now (at .args .new)) (at .args .page .0) (at .args .events) (at .good .1 .0 .1 .0 .1)
+    ends-ready (at .args .mode) (at .args .number) (now (at .args .image)) (now (at .args .new)) (at .args .page .0) (at .args .events) (at .good .1 .1 .0 .1 .0 .1)
     (λ i. c .before .before .before .before .before .before .before .before .before .before .before .before .shared-slice-known .given i .fits)
     (started .result .state) (c .before .before .before .before .power-up .result) (c .before .before .run .last .1 .1 .0)
     (ap startTold (sym (c .before .before .before .before .before .before .before .enum-told .given .1)) ∙ started .ensures .0)

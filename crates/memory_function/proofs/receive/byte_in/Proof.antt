@@ -18,7 +18,7 @@ returns-3 c = simp (c .before .before .before .i2 .given .1) (c .start-at .ensur
 
 returns-4 : tie.Need-returns-4
 unfolding received
-returns-4 c = simp (c .before .before .before .i3 .given .1) (c .send-crc .ensures ∙ simp (c .before .byte2 .ensures))
+returns-4 c = simp (c .before .before .i3 .given .1) (c .data-in .ensures)
 
 pub byte-in-spec : {M : Type 1} → statement M
 byte-in-spec =
@@ -33,7 +33,6 @@ byte-in-spec =
     (λ c κs. search needs)
     (λ c κs. search needs)
     (λ c. search needs)
-    (λ c κs. search needs)
     (λ c κs. search needs)
     returns
     returns-2

@@ -26,7 +26,15 @@ returns-5 c = simp (c .before .match .keys5) (c .begin5 .ensures)
 
 returns-6 : tie.Need-returns-6
 unfolding memoryCommand
-returns-6 c = simp (ne-eqb _ _ (c .match .rest .1), ne-eqb _ _ (c .match .rest .0 .1), ne-eqb _ _ (c .match .rest .0 .0 .1), ne-eqb _ _ (c .match .rest .0 .0 .0 .1), ne-eqb _ _ (c .match .rest .0 .0 .0 .0 .1))
+returns-6 c = simp (c .before .match .keys6) (c .begin6 .ensures)
+
+returns-7 : tie.Need-returns-7
+unfolding memoryCommand
+returns-7 c = simp (c .before .match .keys7) (c .begin7 .ensures)
+
+returns-8 : tie.Need-returns-8
+unfolding memoryCommand
+returns-8 c = simp (ne-eqb _ _ (c .match .rest .1), ne-eqb _ _ (c .match .rest .0 .1), ne-eqb _ _ (c .match .rest .0 .0 .1), ne-eqb _ _ (c .match .rest .0 .0 .0 .1), ne-eqb _ _ (c .match .rest .0 .0 .0 .0 .1), ne-eqb _ _ (c .match .rest .0 .0 .0 .0 .0 .1), ne-eqb _ _ (c .match .rest .0 .0 .0 .0 .0 .0 .1))
 
 pub command-spec : {M : Type 1} → statement M
 command-spec =
@@ -37,9 +45,13 @@ command-spec =
     (λ c κs. search needs)
     (λ c κs. search needs)
     (λ c κs. search needs)
+    (λ c κs. search needs)
+    (λ c κs. search needs)
     returns
     returns-2
     returns-3
     returns-4
     returns-5
-    returns-6)
+    returns-6
+    returns-7
+    returns-8)

@@ -18,12 +18,13 @@ returns-3 c = simp (c .before .match .keys3, c .command-of2 .ensures)
 
 returns-4 : tie.Need-returns-4
 unfolding incomingOf
-returns-4 c = simp (ne-eqb _ _ (c .before .match .rest .1), ne-eqb _ _ (c .before .match .rest .0 .1), ne-eqb _ _ (c .before .match .rest .0 .0 .1), c .target-of .ensures)
+returns-4 c = simp (ne-eqb _ _ (c .before .before .match .rest .1), ne-eqb _ _ (c .before .before .match .rest .0 .1), ne-eqb _ _ (c .before .before .match .rest .0 .0 .1), c .target-of .ensures, c .before .mode-of-target .ensures)
 
 pub incoming-of-spec : {M : Type 1} → statement M
 incoming-of-spec =
     tie.close
     (tie.spec
+    (λ c κs. search needs)
     (λ c κs. search needs)
     (λ c κs. search needs)
     (λ c κs. search needs)

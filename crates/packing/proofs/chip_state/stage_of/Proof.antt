@@ -22,7 +22,7 @@ returns-4 c = simp (c .before .before .match .keys4, c .outgoing-of .ensures, c 
 
 returns-5 : tie.Need-returns-5
 unfolding frontStage
-returns-5 c = simp (c .before .match .keys5, c .target-of .ensures)
+returns-5 c = simp (c .before .before .match .keys5, c .target-of .ensures, c .before .mode-of-target .ensures)
 
 returns-6 : tie.Need-returns-6
 unfolding frontStage
@@ -32,6 +32,7 @@ pub stage-of-spec : {M : Type 1} → statement M
 stage-of-spec =
     tie.close
     (tie.spec
+    (λ c κs. search needs)
     (λ c κs. search needs)
     (λ c κs. search needs)
     (λ c κs. search needs)

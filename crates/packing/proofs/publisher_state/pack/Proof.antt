@@ -14,7 +14,7 @@ returns c =
     let f = c .before .before .before .before .before .front-of-state in
     let start = c .before .before .before .before .before .before .before .before in
     let state = start .args .state in
-    let len : length (state .new) ≡ 32 = search (needs, start .good .0 .1 .1 .1 .1 .1 .1) in
+    let len : length (state .new) ≡ 32 = search (needs, start .good .0 .1 .1 .1 .1 .1 .1 .1) in
     let held : frontAt (laid (publisherFront state)) ≡ publisherFront state = rw (f .ensures) at (put .ensures .1 .1) in
     (rw len at (put .ensures .0), (rw (len, f .ensures) at (put .ensures .1 .0), (publisher-back state held len, publisher-kept state held len)))
 

@@ -11,7 +11,7 @@ unfolding copyTold publisherJudged isPublisherState publisherBytes
 returns c =
     let state = c .before .before .before .before .state-of in
     let f = c .before .before .front-of-state in
-    let len : length (state .result .new) ≡ 32 = search needs in
+    let len : length (state .result .new) ≡ 32 = search (needs, state .ok .1 .1 .1 .1 .1 .1) in
     (rw (len, f .ensures, state .ensures) at (c .judge .ensures), state .ensures)
 
 pub unpack-spec : {M : Type 1} → statement M

@@ -3,8 +3,7 @@ use mathlib.Core.Path.{_≡_, refl, ap, _∙_}
 use native.Mathlib.Omega.{arith}
 use lib.ListN.{length, set}
 use borrow.Author.Needs.{needs}
-use Rattle.publisher.specs.Call.{turnTold}
-use Rattle.runs.specs.Publisher.{publisherAfter, publisherTold}
+use Rattle.publisher.specs.Call.{turnTold, callAnswer, callState}
 use Rattle.runs.proofs.Runs.{Midway, midway, arrived}
 use Rattle.runs.proofs.publish.run.Statement.{statement}
 use Rattle.runs.proofs.publish.run.Tie as tie
@@ -13,7 +12,7 @@ abbrev Inv-loop : tie.InvT-loop
 Inv-loop replies events₀ state₀ answer₀ i₀ events state answer i =
     (i ≤ length replies)
     × (length events ≡ length events₀)
-    × Midway (publisherAfter 64) (publisherTold 64) state₀ replies events₀ i state (turnTold answer) events
+    × Midway (callState 64) (callAnswer 64) state₀ replies events₀ i state (turnTold answer) events
 
 abbrev μ-loop : tie.MeasureT-loop
 μ-loop replies events₀ state₀ answer₀ i₀ events state answer i = length replies - i
@@ -32,7 +31,7 @@ loop-again c =
     let put = c .before .before .put in (
       omega arith,
       put .kept .0 ∙ l .inv .1,
-      midway (publisherAfter 64) (publisherTold 64) _ (args .replies .now) _ (l .i) (l .state) _ (l .events) (omega arith) (l .inv .2)
+      midway (callState 64) (callAnswer 64) _ (args .replies .now) _ (l .i) (l .state) _ (l .events) (omega arith) (l .inv .2)
           _ _ _
           (called .ensures .1)
           (called .ensures .0)
@@ -45,7 +44,7 @@ same-length c = c .before .loop .inv .1
 returns : tie.Need-returns Inv-loop μ-loop
 returns c =
     let at = c .before in
-    arrived (publisherAfter 64) (publisherTold 64) _ (at .before .before .before .args .replies .now) _ (at .loop .i) (at .loop .state) _ (at .loop .events) (omega arith) (at .loop .inv .2)
+    arrived (callState 64) (callAnswer 64) _ (at .before .before .before .args .replies .now) _ (at .loop .i) (at .loop .state) _ (at .loop .events) (omega arith) (at .loop .inv .2)
 
 pub run-spec : {M : Type 1} → statement M
 run-spec =

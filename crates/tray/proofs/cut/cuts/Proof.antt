@@ -4,10 +4,10 @@ use Rattle.tray.proofs.cut.cuts.Statement.{statement}
 use Rattle.tray.proofs.cut.cuts.Tie as tie
 
 abbrev Inv-loop : tie.InvT-loop
-Inv-loop group seed blank image₀ new₀ left₀ image new left = left ≤ left₀
+Inv-loop group seed blank mode image₀ new₀ count left₀ image new left = left ≤ left₀
 
 abbrev μ-loop : tie.MeasureT-loop
-μ-loop group seed blank image₀ new₀ left₀ image new left = left
+μ-loop group seed blank mode image₀ new₀ count left₀ image new left = left
 
 pub cuts-spec : {M : Type 1} → statement M
 cuts-spec =
@@ -15,6 +15,7 @@ cuts-spec =
     (tie.spec
     Inv-loop
     μ-loop
+    (λ c κs. search needs)
     (λ c. search needs)
     (λ c κs. search needs)
     (λ c κs. search needs)

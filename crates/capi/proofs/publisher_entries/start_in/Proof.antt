@@ -3,8 +3,8 @@ use borrow.Author.Tests.{eq-eqb, ne-eqb, not-false, not-true}
 use Rattle.capi.specs.Publisher.{publisherStartState, publisherStarted}
 use Rattle.capi.specs.Answers.{answered}
 use borrow.Author.Needs.{needs}
-use Rattle.capi.proofs.publisher_entries.ds2505_publisher_start.Statement.{statement}
-use Rattle.capi.proofs.publisher_entries.ds2505_publisher_start.Tie as tie
+use Rattle.capi.proofs.publisher_entries.start_in.Statement.{statement}
+use Rattle.capi.proofs.publisher_entries.start_in.Tie as tie
 
 returns : tie.Need-returns
 unfolding answered publisherStartState publisherStarted
@@ -18,8 +18,8 @@ returns-3 : tie.Need-returns-3
 unfolding answered publisherStartState publisherStarted
 returns-3 c = (simp (sym (c .before .before .before .before .before .before .before .before .before .before .is-answer .ensures) ∙ not-false (c .before .before .before .before .before .before .before .before .before .before .is-answer .result) (c .before .before .before .before .before .before .before .before .before .if1 .left), eq-eqb _ _ (c .before .before .before .before .before .before .before .before .if2 .left)) (c .before .before .before .before .keep-started .ensures .0 ∙ simp (c .before .before .before .before .keep-started .ensures .1 .0, c .before .before .before .before .keep-started .ensures .1 .1, c .before .before .before .before .before .before .before .start .ensures .0, c .before .before .before .before .before .before .before .start .ensures .1)), (simp (sym (c .before .before .before .before .before .before .before .before .before .before .is-answer .ensures) ∙ not-false (c .before .before .before .before .before .before .before .before .before .before .is-answer .result) (c .before .before .before .before .before .before .before .before .before .if1 .left), eq-eqb _ _ (c .before .before .before .before .before .before .before .before .if2 .left)) (c .before .before .before .before .keep-started .ensures .1 .0 ∙ simp (c .before .before .before .before .keep-started .ensures .1 .1, c .before .before .before .before .before .before .before .start .ensures .0, c .before .before .before .before .before .before .before .start .ensures .1)), simp (sym (c .before .before .before .before .before .before .before .before .before .before .is-answer .ensures) ∙ not-false (c .before .before .before .before .before .before .before .before .before .before .is-answer .result) (c .before .before .before .before .before .before .before .before .before .if1 .left), eq-eqb _ _ (c .before .before .before .before .before .before .before .before .if2 .left)) (c .before .before .before .before .keep-started .ensures .1 .1 ∙ simp (c .before .before .before .before .keep-started .ensures .1 .0, c .before .before .before .before .before .before .before .start .ensures .0, c .before .before .before .before .before .before .before .start .ensures .1))))
 
-pub ds2505-publisher-start-spec : {M : Type 1} → statement M
-ds2505-publisher-start-spec =
+pub start-in-spec : {M : Type 1} → statement M
+start-in-spec =
     tie.close
     (tie.spec
     (λ c κs. search needs)
