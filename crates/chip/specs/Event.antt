@@ -10,9 +10,9 @@ use Rattle.rom_function.specs.declared.RomOutcome.{RomOutcome}
 use Rattle.rom_function.specs.declared.RomOutcome.the-variants.{Stays, Selected, Deselected}
 use Rattle.rom_function.specs.Rom.{romSlot, romBit, romInRange}
 use Rattle.memory.specs.Layout.{isImage}
-use Rattle.memory_function.specs.declared.stage.Incoming.the-variants.{Command as CommandByte}
-use Rattle.memory_function.specs.declared.stage.MemoryStage.the-variants.{Silent}
-use Rattle.memory_function.specs.Stages.{receiving}
+use Rattle.memory_stage.specs.declared.stage.Incoming.the-variants.{Command as CommandByte}
+use Rattle.memory_stage.specs.declared.stage.MemoryStage.the-variants.{Silent}
+use Rattle.memory_stage.specs.Stages.{receiving}
 use Rattle.memory_function.specs.Functions.{memorySlot, memoryBit, pulseImage, pulseStage}
 use Rattle.memory_function.specs.Ranges.{memoryInRange}
 use Rattle.chip.specs.declared.event.Stage.{Stage}

@@ -5,7 +5,7 @@ use mathlib.Core.Bool.{true}
 use native.Mathlib.Nat.{mod-lt}
 use lib.Dec.{ltb, lit<, lit≤}
 use borrow.Author.Tests.{lt-ltb, le-ltb}
-use Rattle.memory_function.specs.Limits.{limitOf, isAddress, addressBits, keptAddress}
+use Rattle.memory_stage.specs.Limits.{limitOf, isAddress, addressBits, keptAddress}
 use Rattle.function_laws.specs.Addresses.{AddressLaws}
 use Rattle.function_laws.proofs.Addresses.{address-laws}
 use Rattle.chip_laws.specs.Laws.{StateLaws, RomLaws, ReadLaws, WriteLaws, SilenceLaws, NoticeLaws, Ds2505Starts}

@@ -21,8 +21,8 @@ use Rattle.crc.specs.Crc.{crcBytes, crcBits, crc16Of, crc16Word}
 use Rattle.crc.proofs.Runs.{bytes-after, bytes-bits}
 use Rattle.memory.specs.Layout.{dataSize}
 use Rattle.memory.specs.Image.{dataByte, statusByte, redirectionOf}
-use Rattle.memory_function.specs.Limits.{limitOf, isAddress, addressBits, keptAddress}
-use Rattle.memory_function.proofs.Addresses.{limit-fits}
+use Rattle.memory_stage.specs.Limits.{limitOf, isAddress, addressBits, keptAddress}
+use Rattle.memory_stage.proofs.Addresses.{limit-fits}
 use Rattle.function_laws.specs.Streams.{bytesFrom, crcOf, header, memoryStream, statusStream, extendedPages, extendedStream}
 use Rattle.function_laws.proofs.Addresses.{address-laws}
 use Rattle.chip.specs.Run.{Chip, answers, lineOf}

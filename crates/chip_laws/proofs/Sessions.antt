@@ -21,14 +21,14 @@ use Rattle.rom_function.specs.declared.RomOutcome.{RomOutcome}
 use Rattle.rom_function.specs.Rom.{numberBit, romCommand}
 use Rattle.rom_laws.specs.Rom.{Roms, Ask, numberBits, searchBits, searchSent}
 use Rattle.rom_laws.proofs.Sessions.{rom-laws}
-use Rattle.memory_function.specs.declared.stage.Command.{Command}
-use Rattle.memory_function.specs.declared.stage.Command.the-variants.{ReadMemory, ReadStatus, ExtendedRead, Write}
-use Rattle.memory_function.specs.declared.stage.Incoming.the-variants.{Command as CommandByte, AddressLow, AddressHigh}
-use Rattle.memory_function.specs.declared.stage.MemoryStage.{MemoryStage}
-use Rattle.memory_function.specs.declared.stage.MemoryStage.the-variants.{Silent}
-use Rattle.memory_function.specs.Limits.{limitOf, isAddress, keptAddress}
-use Rattle.memory_function.specs.Reads.{startMemory, startStatus, startExtended}
-use Rattle.memory_function.specs.Writes.{startWrite}
+use Rattle.memory_stage.specs.declared.stage.Command.{Command}
+use Rattle.memory_stage.specs.declared.stage.Command.the-variants.{ReadMemory, ReadStatus, ExtendedRead, Write}
+use Rattle.memory_stage.specs.declared.stage.Incoming.the-variants.{Command as CommandByte, AddressLow, AddressHigh}
+use Rattle.memory_stage.specs.declared.stage.MemoryStage.{MemoryStage}
+use Rattle.memory_stage.specs.declared.stage.MemoryStage.the-variants.{Silent}
+use Rattle.memory_stage.specs.Limits.{limitOf, isAddress, keptAddress}
+use Rattle.memory_stage.specs.Reads.{startMemory, startStatus, startExtended}
+use Rattle.memory_stage.specs.Writes.{startWrite}
 use Rattle.memory_function.specs.Functions.{beginning, memoryCommand, addressed, startedAt, received}
 use Rattle.function_laws.specs.Streams.{header}
 use Rattle.function_laws.specs.Reads.{Sends, none}

@@ -16,10 +16,10 @@ use Rattle.bus.specs.Slots.{slots, ones, lines}
 use Rattle.rom_function.specs.declared.RomStage.{RomStage}
 use Rattle.rom_function.specs.declared.RomOutcome.{RomOutcome}
 use Rattle.rom_laws.specs.Rom.{Roms, last, more}
-use Rattle.memory_function.specs.declared.stage.Incoming.{Incoming}
-use Rattle.memory_function.specs.declared.stage.MemoryStage.{MemoryStage}
-use Rattle.memory_function.specs.declared.stage.MemoryStage.the-variants.{Silent, Receive}
-use Rattle.memory_function.specs.Stages.{receiving}
+use Rattle.memory_stage.specs.declared.stage.Incoming.{Incoming}
+use Rattle.memory_stage.specs.declared.stage.MemoryStage.{MemoryStage}
+use Rattle.memory_stage.specs.declared.stage.MemoryStage.the-variants.{Silent, Receive}
+use Rattle.memory_stage.specs.Stages.{receiving}
 use Rattle.memory_function.specs.Functions.{received, receiveBit, memorySlot, memoryBit}
 use Rattle.function_laws.specs.Reads.{Sends, none, next}
 use Rattle.chip.specs.declared.event.Stage.the-variants.{Rom, Memory}

@@ -17,8 +17,8 @@ use Rattle.rom_function.specs.declared.RomOutcome.{RomOutcome}
 use Rattle.rom_function.specs.declared.RomOutcome.the-variants.{Stays, Selected, Deselected}
 use Rattle.rom_function.specs.Rom.{romSlot, romInRange}
 use Rattle.rom_laws.proofs.Sessions.{rom-laws}
-use Rattle.memory_function.specs.declared.stage.MemoryStage.the-variants.{Silent, Receive, Send, Armed}
-use Rattle.memory_function.specs.Stages.{receiving}
+use Rattle.memory_stage.specs.declared.stage.MemoryStage.the-variants.{Silent, Receive, Send, Armed}
+use Rattle.memory_stage.specs.Stages.{receiving}
 use Rattle.memory_function.specs.Functions.{memorySlot, memoryBit, pulseImage, pulseStage}
 use Rattle.memory_function.specs.Ranges.{memoryInRange, receiveInRange, incomingInRange}
 use Rattle.range_laws.proofs.Keeps.{range-laws}

@@ -19,15 +19,15 @@ use Rattle.bus.specs.Slots.{slots, ones, reading}
 use Rattle.crc.specs.Crc.{crcBytes, crc16Byte, crc16Of, crc16Word}
 use Rattle.memory.specs.Image.{targetByte}
 use Rattle.memory.specs.Write.{programmed}
-use Rattle.memory_function.specs.declared.stage.Command.the-variants.{Write}
-use Rattle.memory_function.specs.declared.stage.Incoming.the-variants.{Data as DataByte}
-use Rattle.memory_function.specs.declared.stage.Outgoing.the-variants.{WriteCrc, ReadBack}
-use Rattle.memory_function.specs.declared.stage.MemoryStage.{MemoryStage}
-use Rattle.memory_function.specs.declared.stage.MemoryStage.the-variants.{Receive, Armed}
-use Rattle.memory_function.specs.Limits.{limitOf, isAddress, keptAddress, targetAt}
-use Rattle.memory_function.proofs.Addresses.{limit-fits}
-use Rattle.memory_function.specs.Stages.{receiving}
-use Rattle.memory_function.specs.Writes.{startWrite, dataIn, raised, nextWrite, readingBack}
+use Rattle.memory_stage.specs.declared.stage.Command.the-variants.{Write}
+use Rattle.memory_stage.specs.declared.stage.Incoming.the-variants.{Data as DataByte}
+use Rattle.memory_stage.specs.declared.stage.Outgoing.the-variants.{WriteCrc, ReadBack}
+use Rattle.memory_stage.specs.declared.stage.MemoryStage.{MemoryStage}
+use Rattle.memory_stage.specs.declared.stage.MemoryStage.the-variants.{Receive, Armed}
+use Rattle.memory_stage.specs.Limits.{limitOf, isAddress, keptAddress, targetAt}
+use Rattle.memory_stage.proofs.Addresses.{limit-fits}
+use Rattle.memory_stage.specs.Stages.{receiving}
+use Rattle.memory_stage.specs.Writes.{startWrite, dataIn, raised, nextWrite, readingBack}
 use Rattle.memory_function.specs.Functions.{received, sent, addressed, pulseImage, pulseStage}
 use Rattle.function_laws.specs.Streams.{header}
 use Rattle.function_laws.specs.Writes.{writtenFrom}

@@ -20,8 +20,8 @@ use Rattle.crc.specs.Crc.{crc16Of}
 use Rattle.memory.specs.Layout.{imageSize}
 use Rattle.memory.specs.Image.{dataByte, statusByte, redirectionOf}
 use Rattle.memory.specs.Write.{programmed}
-use Rattle.memory_function.specs.declared.stage.MemoryStage.the-variants.{Silent, Receive, Send, Armed}
-use Rattle.memory_function.specs.Limits.{limitOf, isAddress, addressBits, keptAddress, targetAt}
+use Rattle.memory_stage.specs.declared.stage.MemoryStage.the-variants.{Silent, Receive, Send, Armed}
+use Rattle.memory_stage.specs.Limits.{limitOf, isAddress, addressBits, keptAddress, targetAt}
 use Rattle.rom_function.specs.Rom.{numberBit}
 use Rattle.rom_laws.specs.Rom.{Ask, numberBits, searchBits, searchSent}
 use Rattle.function_laws.specs.Streams.{bytesFrom, crcOf, header, memoryStream, statusStream, extendedStream}

@@ -18,9 +18,9 @@ use Rattle.memory.specs.Layout.{imageSize}
 use Rattle.memory.specs.Image.{targetByte}
 use Rattle.memory.specs.Write.{programmed}
 use Rattle.rom_laws.specs.Rom.{Ask, searchBits, searchSent}
-use Rattle.memory_function.specs.declared.stage.Incoming.the-variants.{Data as DataByte}
-use Rattle.memory_function.specs.Limits.{limitOf, targetAt}
-use Rattle.memory_function.specs.Stages.{receiving}
+use Rattle.memory_stage.specs.declared.stage.Incoming.the-variants.{Data as DataByte}
+use Rattle.memory_stage.specs.Limits.{limitOf, targetAt}
+use Rattle.memory_stage.specs.Stages.{receiving}
 use Rattle.chip.specs.declared.event.Stage.{Stage}
 use Rattle.chip.specs.declared.event.Stage.the-variants.{Memory}
 use Rattle.chip.specs.Event.{silent, inRange}

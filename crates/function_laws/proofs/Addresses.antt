@@ -15,7 +15,7 @@ use Rattle.crc.specs.Crc.{crcBytes, crc16Byte, crc16From, crc16Of, crc16Loaded,
 use Rattle.crc.specs.Polynomial.{crc16Polynomial}
 use Rattle.crc.proofs.Distinct.{registers-tell, bytes-tell}
 use Rattle.crc.proofs.Runs.{bytes-lt}
-use Rattle.memory_function.specs.Limits.{limitOf, addressBits, keptAddress}
+use Rattle.memory_stage.specs.Limits.{limitOf, addressBits, keptAddress}
 use Rattle.function_laws.specs.Streams.{crcOf, header}
 use Rattle.function_laws.specs.Addresses.{AddressLaws}
 

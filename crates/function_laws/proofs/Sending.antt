@@ -8,10 +8,10 @@ use native.Mathlib.Omega.{arith}
 use borrow.Author.Tests.{lt-ltb}
 use Rattle.terms.specs.Bits.{bitsOf, bitsOfBytes}
 use Rattle.crc.specs.Crc.{crcBytes, crc16Byte, crc16From, crc16Word}
-use Rattle.memory_function.specs.declared.stage.Outgoing.{Outgoing}
-use Rattle.memory_function.specs.declared.stage.MemoryStage.{MemoryStage}
-use Rattle.memory_function.specs.declared.stage.MemoryStage.the-variants.{Send}
-use Rattle.memory_function.specs.Stages.{sendingByte, sendingCrc}
+use Rattle.memory_stage.specs.declared.stage.Outgoing.{Outgoing}
+use Rattle.memory_stage.specs.declared.stage.MemoryStage.{MemoryStage}
+use Rattle.memory_stage.specs.declared.stage.MemoryStage.the-variants.{Send}
+use Rattle.memory_stage.specs.Stages.{sendingByte, sendingCrc}
 use Rattle.memory_function.specs.Functions.{sent, sendBit, memorySlot, memoryBit}
 use Rattle.function_laws.specs.Streams.{bytesFrom}
 use Rattle.function_laws.specs.Reads.{Sends, none, next}

@@ -14,11 +14,11 @@ use Rattle.crc.specs.Polynomial.{crc16Polynomial}
 use Rattle.crc.proofs.Runs.{bytes-after}
 use Rattle.memory.specs.Layout.{dataSize, statusSize}
 use Rattle.memory.specs.Image.{dataByte, statusByte, redirectionOf}
-use Rattle.memory_function.specs.declared.stage.Outgoing.the-variants.{MemoryData, MemoryCrc, StatusData, StatusCrc, RedirectionByte, RedirectionCrc, PageData, PageCrc}
-use Rattle.memory_function.specs.declared.stage.MemoryStage.the-variants.{Silent}
-use Rattle.memory_function.specs.Limits.{limitOf, isAddress}
-use Rattle.memory_function.specs.Stages.{sendingCrc}
-use Rattle.memory_function.specs.Reads.{memoryFrom, statusFrom, redirectionFrom, pageFrom, startMemory, startStatus, startExtended, afterMemory, afterStatus, nextStatus, afterPage, nextPage}
+use Rattle.memory_stage.specs.declared.stage.Outgoing.the-variants.{MemoryData, MemoryCrc, StatusData, StatusCrc, RedirectionByte, RedirectionCrc, PageData, PageCrc}
+use Rattle.memory_stage.specs.declared.stage.MemoryStage.the-variants.{Silent}
+use Rattle.memory_stage.specs.Limits.{limitOf, isAddress}
+use Rattle.memory_stage.specs.Stages.{sendingCrc}
+use Rattle.memory_stage.specs.Reads.{memoryFrom, statusFrom, redirectionFrom, pageFrom, startMemory, startStatus, startExtended, afterMemory, afterStatus, nextStatus, afterPage, nextPage}
 use Rattle.memory_function.specs.Functions.{sent}
 use Rattle.function_laws.specs.Streams.{bytesFrom, crcOf, header, memoryStream, statusPages, statusStream, pageStream, extendedPages, extendedStream}
 use Rattle.function_laws.specs.Reads.{Sends, none, ReadLaws}

@@ -5,7 +5,7 @@ use mathlib.Core.List.{List, [], _∷_, _++_}
 use Rattle.terms.specs.Bits.{bitsOf}
 use Rattle.terms.specs.declared.address.Space.{Space}
 use Rattle.crc.specs.Crc.{crc16Loaded, crc16Word}
-use Rattle.memory_function.specs.Limits.{limitOf, addressBits, keptAddress}
+use Rattle.memory_stage.specs.Limits.{limitOf, addressBits, keptAddress}
 use Rattle.function_laws.specs.Streams.{crcOf, header}
 
 pub record AddressLaws (n : ℕ) : Type 0 where

@@ -5,10 +5,10 @@ use mathlib.Core.Bool.{Bool}
 use mathlib.Core.List.{List, [], _∷_}
 use Rattle.crc.specs.Crc.{crc16Of}
 use Rattle.memory.specs.Layout.{dataSize, statusSize}
-use Rattle.memory_function.specs.declared.stage.MemoryStage.{MemoryStage}
-use Rattle.memory_function.specs.declared.stage.MemoryStage.the-variants.{Silent}
+use Rattle.memory_stage.specs.declared.stage.MemoryStage.{MemoryStage}
+use Rattle.memory_stage.specs.declared.stage.MemoryStage.the-variants.{Silent}
 use Rattle.memory_function.specs.Functions.{memorySlot, memoryBit}
-use Rattle.memory_function.specs.Reads.{startMemory, startStatus, startExtended}
+use Rattle.memory_stage.specs.Reads.{startMemory, startStatus, startExtended}
 use Rattle.function_laws.specs.Streams.{header, memoryStream, statusStream, extendedStream}
 
 -- From a stage, slots with any master bits meet these bits of the chip, one after the other, and lead to another stage.

@@ -1,9 +1,9 @@
--- The two commands that write, over whole sessions: what the bytes after the command and its address do.
+-- The commands that write, over whole sessions: what the bytes after the command and its address do.
 use Prim.Native.Nat.{ℕ, _+_}
 use mathlib.Core.List.{List, [], _∷_}
 use Rattle.terms.specs.declared.address.Space.{Space}
 use Rattle.memory.specs.Write.{programmed}
-use Rattle.memory_function.specs.Limits.{targetAt}
+use Rattle.memory_stage.specs.Limits.{targetAt}
 
 -- the image after bytes were written from address a of a memory on
 unfoldable pub writtenFrom : ℕ → List ℕ → Space → ℕ → List ℕ → List ℕ

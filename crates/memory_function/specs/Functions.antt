@@ -8,18 +8,18 @@ use Rattle.terms.specs.declared.address.Space.the-variants.{Data, Status}
 use Rattle.terms.specs.declared.write_mode.WriteMode.the-variants.{Ordinary, Quick}
 use Rattle.crc.specs.Crc.{crc16Byte}
 use Rattle.memory.specs.Write.{programmed}
-use Rattle.memory_function.specs.declared.stage.Command.{Command}
-use Rattle.memory_function.specs.declared.stage.Command.the-variants.{ReadMemory, ReadStatus, ExtendedRead, Write}
-use Rattle.memory_function.specs.declared.stage.Incoming.{Incoming}
-use Rattle.memory_function.specs.declared.stage.Incoming.the-variants.{Command as CommandByte, AddressLow, AddressHigh, Data as DataByte}
-use Rattle.memory_function.specs.declared.stage.Outgoing.{Outgoing}
-use Rattle.memory_function.specs.declared.stage.Outgoing.the-variants.{MemoryData, MemoryCrc, StatusData, StatusCrc, RedirectionByte, RedirectionCrc, PageData, PageCrc, WriteCrc, ReadBack}
-use Rattle.memory_function.specs.declared.stage.MemoryStage.{MemoryStage}
-use Rattle.memory_function.specs.declared.stage.MemoryStage.the-variants.{Silent, Receive, Send, Armed}
-use Rattle.memory_function.specs.Limits.{keptAddress}
-use Rattle.memory_function.specs.Stages.{receiving, sendingCrc}
-use Rattle.memory_function.specs.Reads.{startMemory, startStatus, startExtended, pageFrom, afterMemory, afterStatus, nextStatus, afterPage, nextPage}
-use Rattle.memory_function.specs.Writes.{startWrite, dataIn, nextWrite, readingBack}
+use Rattle.memory_stage.specs.declared.stage.Command.{Command}
+use Rattle.memory_stage.specs.declared.stage.Command.the-variants.{ReadMemory, ReadStatus, ExtendedRead, Write}
+use Rattle.memory_stage.specs.declared.stage.Incoming.{Incoming}
+use Rattle.memory_stage.specs.declared.stage.Incoming.the-variants.{Command as CommandByte, AddressLow, AddressHigh, Data as DataByte}
+use Rattle.memory_stage.specs.declared.stage.Outgoing.{Outgoing}
+use Rattle.memory_stage.specs.declared.stage.Outgoing.the-variants.{MemoryData, MemoryCrc, StatusData, StatusCrc, RedirectionByte, RedirectionCrc, PageData, PageCrc, WriteCrc, ReadBack}
+use Rattle.memory_stage.specs.declared.stage.MemoryStage.{MemoryStage}
+use Rattle.memory_stage.specs.declared.stage.MemoryStage.the-variants.{Silent, Receive, Send, Armed}
+use Rattle.memory_stage.specs.Limits.{keptAddress}
+use Rattle.memory_stage.specs.Stages.{receiving, sendingCrc}
+use Rattle.memory_stage.specs.Reads.{startMemory, startStatus, startExtended, pageFrom, afterMemory, afterStatus, nextStatus, afterPage, nextPage}
+use Rattle.memory_stage.specs.Writes.{startWrite, dataIn, nextWrite, readingBack}
 
 -- ---- a byte has come in
 

@@ -1,6 +1,2 @@
-pub mod Limits
-pub mod Stages
-pub mod Reads
-pub mod Writes
 pub mod Functions
 pub mod Ranges

@@ -3,13 +3,13 @@ use Prim.Native.Nat.{ℕ}
 use mathlib.Core.Bool.{Bool, true, false, cond}
 use lib.Dec.{ltb}
 use Rattle.terms.specs.declared.address.Space.the-variants.{Data, Status}
-use Rattle.memory_function.specs.declared.stage.Incoming.{Incoming}
-use Rattle.memory_function.specs.declared.stage.Incoming.the-variants.{Command as CommandByte, AddressLow, AddressHigh, Data as DataByte}
-use Rattle.memory_function.specs.declared.stage.Outgoing.{Outgoing}
-use Rattle.memory_function.specs.declared.stage.Outgoing.the-variants.{MemoryData, MemoryCrc, StatusData, StatusCrc, RedirectionByte, RedirectionCrc, PageData, PageCrc, WriteCrc, ReadBack}
-use Rattle.memory_function.specs.declared.stage.MemoryStage.{MemoryStage}
-use Rattle.memory_function.specs.declared.stage.MemoryStage.the-variants.{Silent, Receive, Send, Armed}
-use Rattle.memory_function.specs.Limits.{isAddress, targetInRange}
+use Rattle.memory_stage.specs.declared.stage.Incoming.{Incoming}
+use Rattle.memory_stage.specs.declared.stage.Incoming.the-variants.{Command as CommandByte, AddressLow, AddressHigh, Data as DataByte}
+use Rattle.memory_stage.specs.declared.stage.Outgoing.{Outgoing}
+use Rattle.memory_stage.specs.declared.stage.Outgoing.the-variants.{MemoryData, MemoryCrc, StatusData, StatusCrc, RedirectionByte, RedirectionCrc, PageData, PageCrc, WriteCrc, ReadBack}
+use Rattle.memory_stage.specs.declared.stage.MemoryStage.{MemoryStage}
+use Rattle.memory_stage.specs.declared.stage.MemoryStage.the-variants.{Silent, Receive, Send, Armed}
+use Rattle.memory_stage.specs.Limits.{isAddress, targetInRange}
 
 unfoldable pub incomingInRange : ℕ → Incoming → Bool
 incomingInRange n CommandByte = true

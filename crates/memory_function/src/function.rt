@@ -4,8 +4,8 @@ ghost use Rattle.memory.specs.Layout.{pageCount};
 ghost use Rattle.memory_function.specs.Functions.{memorySlot, memoryBit, pulseImage, pulseStage};
 use crate::receive;
 use crate::send;
-use crate::stage::MemoryStage;
-use crate::write;
+use memory_stage::stage::MemoryStage;
+use memory_stage::write;
 use terms::address::Page;
 use terms::bits;
 

@@ -2,10 +2,10 @@
 ghost use mathlib.Core.Path.{_≡_};
 ghost use Rattle.memory.specs.Layout.{pageCount};
 ghost use Rattle.memory_function.specs.Ranges.{incomingInRange, outgoingInRange, widthOf, receiveInRange, sendInRange, memoryInRange};
-use crate::limits;
-use crate::stage::Incoming;
-use crate::stage::MemoryStage;
-use crate::stage::Outgoing;
+use memory_stage::limits;
+use memory_stage::stage::Incoming;
+use memory_stage::stage::MemoryStage;
+use memory_stage::stage::Outgoing;
 use terms::address::Page;
 use terms::address::Space;
 

@@ -2,11 +2,11 @@
 ghost use mathlib.Core.Path.{_≡_};
 ghost use Rattle.memory.specs.Layout.{pageCount};
 ghost use Rattle.memory_function.specs.Functions.{sent, sendBit};
-use crate::read;
-use crate::stage;
-use crate::stage::MemoryStage;
-use crate::stage::Outgoing;
-use crate::write;
+use memory_stage::read;
+use memory_stage::stage;
+use memory_stage::stage::MemoryStage;
+use memory_stage::stage::Outgoing;
+use memory_stage::write;
 use terms::address::Page;
 use terms::write_mode::WriteMode;
 

@@ -14,13 +14,13 @@ use Rattle.terms.specs.declared.address.Target.the-variants.{Data, Status}
 use Rattle.rom_function.specs.declared.RomStep.{RomStep}
 use Rattle.rom_function.specs.declared.RomStep.the-variants.{Read, Match, SearchBit, SearchComplement, SearchTake}
 use Rattle.rom_function.specs.declared.RomStage.the-variants.{Command as RomCommand, Number}
-use Rattle.memory_function.specs.declared.stage.Command.{Command}
-use Rattle.memory_function.specs.declared.stage.Command.the-variants.{ReadMemory, ReadStatus, ExtendedRead, Write}
-use Rattle.memory_function.specs.declared.stage.Incoming.{Incoming}
-use Rattle.memory_function.specs.declared.stage.Incoming.the-variants.{Command as CommandByte, AddressLow, AddressHigh, Data as DataByte}
-use Rattle.memory_function.specs.declared.stage.Outgoing.{Outgoing}
-use Rattle.memory_function.specs.declared.stage.Outgoing.the-variants.{MemoryData, MemoryCrc, StatusData, StatusCrc, RedirectionByte, RedirectionCrc, PageData, PageCrc, WriteCrc, ReadBack}
-use Rattle.memory_function.specs.declared.stage.MemoryStage.the-variants.{Silent, Receive, Send, Armed}
+use Rattle.memory_stage.specs.declared.stage.Command.{Command}
+use Rattle.memory_stage.specs.declared.stage.Command.the-variants.{ReadMemory, ReadStatus, ExtendedRead, Write}
+use Rattle.memory_stage.specs.declared.stage.Incoming.{Incoming}
+use Rattle.memory_stage.specs.declared.stage.Incoming.the-variants.{Command as CommandByte, AddressLow, AddressHigh, Data as DataByte}
+use Rattle.memory_stage.specs.declared.stage.Outgoing.{Outgoing}
+use Rattle.memory_stage.specs.declared.stage.Outgoing.the-variants.{MemoryData, MemoryCrc, StatusData, StatusCrc, RedirectionByte, RedirectionCrc, PageData, PageCrc, WriteCrc, ReadBack}
+use Rattle.memory_stage.specs.declared.stage.MemoryStage.the-variants.{Silent, Receive, Send, Armed}
 use Rattle.chip.specs.declared.event.Stage.{Stage}
 use Rattle.chip.specs.declared.event.Stage.the-variants.{Rom, Memory}
 use Rattle.chip.specs.declared.event.State.{State}

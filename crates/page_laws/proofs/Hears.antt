@@ -17,11 +17,11 @@ use Rattle.memory.specs.Layout.{imageSize, dataSize}
 use Rattle.memory.specs.Image.{dataByte, redirectionOf, pageBytes}
 use Rattle.memory.proofs.Pages.{page-length}
 use Rattle.terms.specs.declared.address.Space.the-variants.{Data}
-use Rattle.memory_function.specs.declared.stage.Command.the-variants.{ExtendedRead}
-use Rattle.memory_function.specs.declared.stage.MemoryStage.{MemoryStage}
-use Rattle.memory_function.specs.declared.stage.MemoryStage.the-variants.{Silent}
-use Rattle.memory_function.specs.Limits.{limitOf, keptAddress}
-use Rattle.memory_function.specs.Reads.{startExtended}
+use Rattle.memory_stage.specs.declared.stage.Command.the-variants.{ExtendedRead}
+use Rattle.memory_stage.specs.declared.stage.MemoryStage.{MemoryStage}
+use Rattle.memory_stage.specs.declared.stage.MemoryStage.the-variants.{Silent}
+use Rattle.memory_stage.specs.Limits.{limitOf, keptAddress}
+use Rattle.memory_stage.specs.Reads.{startExtended}
 use Rattle.memory_function.specs.Functions.{memoryCommand, addressed}
 use Rattle.function_laws.specs.Streams.{bytesFrom, header, extendedPages, extendedStream}
 use Rattle.function_laws.specs.Reads.{Sends, none, next}

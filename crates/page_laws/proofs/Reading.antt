@@ -14,7 +14,7 @@ use Rattle.memory.specs.Image.{redirectionOf, pageBytes}
 use Rattle.memory.proofs.Pages.{page-length}
 use Rattle.chain.specs.Walk.{namedBy, walkFrom, walkOf}
 use Rattle.chain.proofs.Walks.{turn-valid, turn-beyond, turn-inside, turns-over}
-use Rattle.memory_function.specs.declared.stage.MemoryStage.{MemoryStage}
+use Rattle.memory_stage.specs.declared.stage.MemoryStage.{MemoryStage}
 use Rattle.chip.specs.declared.event.Stage.{Stage}
 use Rattle.chip.specs.declared.event.Stage.the-variants.{Memory}
 use Rattle.chip.specs.Event.{awaitingRom}

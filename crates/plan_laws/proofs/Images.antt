@@ -21,7 +21,7 @@ use Rattle.memory.specs.Page.{isBlank}
 use Rattle.memory.specs.Write.{bitOf, statusWritable, isWritable, indexOf, programmed}
 use Rattle.memory.proofs.Gaps.{redirection-held}
 use Rattle.memory.proofs.Pages.{page-length}
-use Rattle.memory_function.specs.Limits.{targetAt}
+use Rattle.memory_stage.specs.Limits.{targetAt}
 use Rattle.chain.specs.Free.{Free}
 use Rattle.chain.proofs.Scan.{both-true}
 use Rattle.update_laws.specs.Update.{bitmapIndex, stored, cleared, filled, linked}

@@ -15,13 +15,13 @@ use Rattle.bus.specs.Slots.{slots}
 use Rattle.crc.specs.Crc.{crcBytes, crc16Byte, crc16Of, crc16Word}
 use Rattle.memory.specs.Image.{targetByte}
 use Rattle.memory.specs.Write.{programmed}
-use Rattle.memory_function.specs.declared.stage.Incoming.the-variants.{Data as DataByte}
-use Rattle.memory_function.specs.declared.stage.MemoryStage.{MemoryStage}
-use Rattle.memory_function.specs.declared.stage.MemoryStage.the-variants.{Armed}
-use Rattle.memory_function.specs.Limits.{limitOf, targetAt}
-use Rattle.memory_function.specs.Stages.{receiving}
+use Rattle.memory_stage.specs.declared.stage.Incoming.the-variants.{Data as DataByte}
+use Rattle.memory_stage.specs.declared.stage.MemoryStage.{MemoryStage}
+use Rattle.memory_stage.specs.declared.stage.MemoryStage.the-variants.{Armed}
+use Rattle.memory_stage.specs.Limits.{limitOf, targetAt}
+use Rattle.memory_stage.specs.Stages.{receiving}
 use Rattle.memory_function.specs.Functions.{received}
-use Rattle.memory_function.specs.Writes.{dataIn, nextWrite, readingBack}
+use Rattle.memory_stage.specs.Writes.{dataIn, nextWrite, readingBack}
 use Rattle.function_laws.specs.Streams.{header}
 use Rattle.plan.specs.declared.Wanted.the-variants.{Anything, Presence, LastCrcBit, LastBackBit}
 use Rattle.plan.specs.Plan.{step, resetStep, pulseStep, freely, sendSteps, readSteps, armSteps, backByte, backSteps, byteSteps, skipSteps, headSteps, headRegister}

@@ -14,12 +14,12 @@ use Rattle.terms.specs.declared.write_mode.WriteMode.{WriteMode}
 use Rattle.terms.specs.declared.write_mode.WriteMode.the-variants.{Ordinary, Quick}
 use Rattle.memory.specs.declared.layout.Field.the-variants.{RedirectionProtection}
 use Rattle.memory.specs.Image.{pageBit}
-use Rattle.memory_function.specs.declared.stage.Incoming.the-variants.{Data as DataByte}
-use Rattle.memory_function.specs.declared.stage.MemoryStage.{MemoryStage}
-use Rattle.memory_function.specs.declared.stage.MemoryStage.the-variants.{Armed}
-use Rattle.memory_function.specs.Limits.{limitOf, targetAt}
-use Rattle.memory_function.specs.Stages.{receiving}
-use Rattle.memory_function.specs.Writes.{raised, nextWrite, readingBack}
+use Rattle.memory_stage.specs.declared.stage.Incoming.the-variants.{Data as DataByte}
+use Rattle.memory_stage.specs.declared.stage.MemoryStage.{MemoryStage}
+use Rattle.memory_stage.specs.declared.stage.MemoryStage.the-variants.{Armed}
+use Rattle.memory_stage.specs.Limits.{limitOf, targetAt}
+use Rattle.memory_stage.specs.Stages.{receiving}
+use Rattle.memory_stage.specs.Writes.{raised, nextWrite, readingBack}
 use Rattle.chain.specs.Free.{Free}
 use Rattle.update_laws.proofs.Images.{Accepted}
 use Rattle.plan.specs.declared.Step.{Step}

@@ -16,9 +16,9 @@ use Rattle.bus.specs.declared.Event.{Event}
 use Rattle.bus.specs.declared.Event.the-variants.{Reset, Pulse}
 use Rattle.memory.specs.declared.layout.Field.the-variants.{RedirectionProtection}
 use Rattle.memory.specs.Image.{pageBit}
-use Rattle.memory_function.specs.declared.stage.MemoryStage.the-variants.{Armed}
-use Rattle.memory_function.specs.Limits.{targetAt}
-use Rattle.memory_function.specs.Writes.{readingBack}
+use Rattle.memory_stage.specs.declared.stage.MemoryStage.the-variants.{Armed}
+use Rattle.memory_stage.specs.Limits.{targetAt}
+use Rattle.memory_stage.specs.Writes.{readingBack}
 use Rattle.chain.specs.Free.{Free}
 use Rattle.update_laws.specs.Update.{Reading, readOf, moved}
 use Rattle.update_laws.proofs.Images.{Accepted, reads-before}

@@ -15,18 +15,18 @@ use Rattle.terms.specs.declared.write_mode.WriteMode.{WriteMode}
 use Rattle.terms.specs.declared.write_mode.WriteMode.the-variants.{Ordinary, Quick}
 use Rattle.crc.specs.Crc.{crc16Byte}
 use Rattle.memory.specs.Layout.{dataSize, statusSize}
-use Rattle.memory_function.specs.declared.stage.Command.{Command}
-use Rattle.memory_function.specs.declared.stage.Command.the-variants.{ReadMemory, ReadStatus, ExtendedRead, Write}
-use Rattle.memory_function.specs.declared.stage.Incoming.{Incoming}
-use Rattle.memory_function.specs.declared.stage.Incoming.the-variants.{Command as CommandByte, AddressLow, AddressHigh, Data as DataByte}
-use Rattle.memory_function.specs.declared.stage.Outgoing.{Outgoing}
-use Rattle.memory_function.specs.declared.stage.Outgoing.the-variants.{MemoryData, MemoryCrc, StatusData, StatusCrc, RedirectionByte, RedirectionCrc, PageData, PageCrc, WriteCrc, ReadBack}
-use Rattle.memory_function.specs.declared.stage.MemoryStage.{MemoryStage}
-use Rattle.memory_function.specs.declared.stage.MemoryStage.the-variants.{Silent, Receive, Send, Armed}
-use Rattle.memory_function.specs.Limits.{limitOf, isAddress, targetAt, targetInRange}
-use Rattle.memory_function.specs.Stages.{receiving, sendingByte, sendingCrc}
-use Rattle.memory_function.specs.Reads.{memoryFrom, statusFrom, redirectionFrom, pageFrom, startMemory, startStatus, startExtended, afterMemory, afterStatus, nextStatus, afterPage, nextPage}
-use Rattle.memory_function.specs.Writes.{startWrite, dataIn, raised, nextWrite, readingBack}
+use Rattle.memory_stage.specs.declared.stage.Command.{Command}
+use Rattle.memory_stage.specs.declared.stage.Command.the-variants.{ReadMemory, ReadStatus, ExtendedRead, Write}
+use Rattle.memory_stage.specs.declared.stage.Incoming.{Incoming}
+use Rattle.memory_stage.specs.declared.stage.Incoming.the-variants.{Command as CommandByte, AddressLow, AddressHigh, Data as DataByte}
+use Rattle.memory_stage.specs.declared.stage.Outgoing.{Outgoing}
+use Rattle.memory_stage.specs.declared.stage.Outgoing.the-variants.{MemoryData, MemoryCrc, StatusData, StatusCrc, RedirectionByte, RedirectionCrc, PageData, PageCrc, WriteCrc, ReadBack}
+use Rattle.memory_stage.specs.declared.stage.MemoryStage.{MemoryStage}
+use Rattle.memory_stage.specs.declared.stage.MemoryStage.the-variants.{Silent, Receive, Send, Armed}
+use Rattle.memory_stage.specs.Limits.{limitOf, isAddress, targetAt, targetInRange}
+use Rattle.memory_stage.specs.Stages.{receiving, sendingByte, sendingCrc}
+use Rattle.memory_stage.specs.Reads.{memoryFrom, statusFrom, redirectionFrom, pageFrom, startMemory, startStatus, startExtended, afterMemory, afterStatus, nextStatus, afterPage, nextPage}
+use Rattle.memory_stage.specs.Writes.{startWrite, dataIn, raised, nextWrite, readingBack}
 use Rattle.memory_function.specs.Functions.{beginning, memoryCommand, addressed, startedAt, received, receiveBit, sent, sendBit, memorySlot, pulseStage}
 use Rattle.memory_function.specs.Ranges.{incomingInRange, outgoingInRange, widthOf, receiveInRange, sendInRange, memoryInRange}
 use Rattle.range_laws.specs.Ranges.{RangeLaws}

@@ -3,7 +3,7 @@ use Prim.Native.Nat.{ℕ}
 use mathlib.Core.Path.{_≡_}
 use mathlib.Core.Bool.{Bool, true}
 use mathlib.Core.List.{List}
-use Rattle.memory_function.specs.declared.stage.MemoryStage.{MemoryStage}
+use Rattle.memory_stage.specs.declared.stage.MemoryStage.{MemoryStage}
 use Rattle.memory_function.specs.Functions.{memorySlot, pulseStage}
 use Rattle.memory_function.specs.Ranges.{memoryInRange}
 

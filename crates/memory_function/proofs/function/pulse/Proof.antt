@@ -5,7 +5,7 @@ use Rattle.terms.specs.declared.address.Target.{Target}
 use Rattle.terms.specs.declared.write_mode.WriteMode.{WriteMode}
 use Rattle.terms.specs.declared.write_mode.WriteMode.the-variants.{Ordinary, Quick}
 use Rattle.memory.specs.Write.{programmed}
-use Rattle.memory_function.specs.declared.stage.MemoryStage.the-variants.{Armed}
+use Rattle.memory_stage.specs.declared.stage.MemoryStage.the-variants.{Armed}
 use Rattle.memory_function.specs.Functions.{pulseImage, pulseStage}
 use borrow.Author.Needs.{needs}
 use Rattle.memory_function.proofs.function.pulse.Statement.{statement}

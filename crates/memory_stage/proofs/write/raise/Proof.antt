@@ -1,0 +1,35 @@
+use Prim.Native.Nat.{_+_}
+use native.Mathlib.Omega.{arith}
+use Rattle.memory_stage.proofs.Addresses.{limit-fits}
+use borrow.Author.Tests.{le-ltb, lt-ltb}
+use Rattle.memory_stage.specs.Writes.{raised}
+use borrow.Author.Needs.{needs}
+use Rattle.memory_stage.proofs.write.raise.Statement.{statement}
+use Rattle.memory_stage.proofs.write.raise.Tie as tie
+
+add-target : tie.Need-add-target
+add-target c = omega (arith, c .before .limit .ensures, limit-fits (c .before .before .args .last .0 + 1) (c .before .before .args .space) (omega arith))
+
+add-receive : tie.Need-add-receive
+add-receive c = omega (arith, c .before .before .limit .ensures, limit-fits (c .before .before .before .args .last .0 + 1) (c .before .before .before .args .space) (omega arith))
+
+returns : tie.Need-returns
+unfolding raised
+returns c = simp (← (c .before .target .ensures), ← (c .before .before .before .limit .ensures), lt-ltb _ _ (c .before .before .if1 .taken)) (c .receive .ensures)
+
+returns-2 : tie.Need-returns-2
+unfolding raised
+returns-2 c = simp (← (c .before .limit .ensures), le-ltb _ _ (c .if1 .left))
+
+pub raise-spec : {M : Type 1} → statement M
+raise-spec =
+    tie.close
+    (tie.spec
+    (λ c. search needs)
+    (λ c κs. search needs)
+    add-target
+    (λ c κs. search needs)
+    add-receive
+    (λ c κs. search needs)
+    returns
+    returns-2)
