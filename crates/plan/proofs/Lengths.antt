@@ -58,6 +58,7 @@ module _ (select : List Step) (s : ℕ) (long : length select ≡ s) where
   unfolding writeSteps
   write-length mode space a old ds = simp (length-append, head-length, bytes-length)
 
+  -- a clause for each mode, so that a plan that is wrong in one of them is refused there
   pub plan-length : (mode : WriteMode) (l t used : ℕ) (new : List ℕ) → length new ≡ 32
       → length (planBy mode select l t used new) ≡ 3 * s + 73 + 34 * byteSize mode
   unfolding planBy
