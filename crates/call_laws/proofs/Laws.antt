@@ -11,7 +11,7 @@ call-laws n some =
     record {
       starts = start-fits n some;
       keeps = call-keeps n;
-      no-crc = λ s reply quick. call-not n s quick reply;
+      no-crc = λ s reply values quick. call-not n s quick reply values;
       ordered = events-ordered n;
       complete = all-told n;
       refuses = refusal-repeats n some;

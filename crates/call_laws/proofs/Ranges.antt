@@ -1,21 +1,20 @@
 -- Every start and every call keep to the ranges; within them a call takes its turn.
 use Prim.Native.Nat.{ℕ, _+_, _-_, _<_, _≤_}
 use mathlib.Core.Bool.{Bool, true, false, cond, _&&_}
-use mathlib.Core.List.{List, []}
+use mathlib.Core.List.{List}
 use mathlib.Core.Path.{_≡_, refl, sym, _∙_}
 use native.Mathlib.Omega.{arith}
 use lib.Dec.{eqb, ltb}
 use lib.ListN.{length, getD}
 use borrow.Author.Tests.{lt-ltb, le-ltb, le-leb, ltb-true}
 use Rattle.terms.specs.Bits.{same}
-use Rattle.terms.specs.Refusal.{numberOf, valuesOf}
+use Rattle.terms.specs.Refusal.{numberOf}
 use Rattle.terms.specs.Told.{Told, refused, refusing, judge}
-use Rattle.terms.proofs.Refusals.{same-refusal}
 use Rattle.terms.specs.declared.address.Page.{Page}
 use Rattle.terms.specs.declared.verdict.Verdict.{Verdict}
 use Rattle.terms.specs.declared.verdict.Verdict.the-variants.{Final, Loop, Outside}
 use Rattle.terms.specs.declared.refusal.Refusal.{Refusal}
-use Rattle.terms.specs.declared.refusal.Refusal.the-variants.{ImageLength, PageNumber, Loop as LoopRefusal, Outside as OutsideRefusal, NoFreePage, RedirectionProtected, BufferLength, Crc16}
+use Rattle.terms.specs.declared.refusal.Refusal.the-variants.{ImageLength, StateRange, PageNumber, Loop as LoopRefusal, Outside as OutsideRefusal, Crc16, ReadBack, NoFreePage, RedirectionProtected, BufferLength, Sheet, NoPresence, Crc8, Family}
 use Rattle.terms.specs.declared.write_mode.WriteMode.{WriteMode}
 use Rattle.terms.specs.declared.write_mode.WriteMode.the-variants.{Ordinary, Quick}
 use Rattle.memory.specs.declared.layout.Field.the-variants.{RedirectionProtection}
@@ -31,7 +30,6 @@ use Rattle.update_laws.proofs.Relink.{final-below}
 use Rattle.master.specs.Next.{Next}
 use Rattle.plan.specs.declared.Wanted.{Wanted}
 use Rattle.plan.specs.declared.Wanted.the-variants.{Anything, Presence, Bit, LastCrcBit, LastBackBit}
-use Rattle.plan.specs.declared.Step.{Step}
 use Rattle.publisher.specs.declared.Choice.{Choice}
 use Rattle.publisher.specs.declared.Choice.the-variants.{Refused, Accepted}
 use Rattle.publisher.specs.declared.Judged.{Judged}
@@ -200,16 +198,32 @@ call-keeps n s reply h = let f = bounds n s h in rw (called-is n s reply h) (tur
 
 -- ---- a publisher that reads no CRC
 
--- what a call tells, other than 2, is not 6
+-- a refusal that stops and has the number 6 says that CRCs are read
+six-stops : (n : ℕ) (r : Refusal) → isStop Quick n r ≡ true → numberOf r ≡ 6 → false ≡ true
+unfolding isStop readsCrc
+six-stops n ImageLength h e = absurd (omega arith)
+six-stops n StateRange h e = absurd (omega arith)
+six-stops n PageNumber h e = absurd (omega arith)
+six-stops n LoopRefusal h e = absurd (omega arith)
+six-stops n (OutsideRefusal x) h e = absurd (omega arith)
+six-stops n Crc16 h e = h
+six-stops n ReadBack h e = absurd (omega arith)
+six-stops n NoFreePage h e = absurd (omega arith)
+six-stops n (RedirectionProtected l) h e = absurd (omega arith)
+six-stops n BufferLength h e = absurd (omega arith)
+six-stops n Sheet h e = absurd (omega arith)
+six-stops n NoPresence h e = absurd (omega arith)
+six-stops n Crc8 h e = absurd (omega arith)
+six-stops n Family h e = absurd (omega arith)
+
+-- what is told is not 6
 abbrev NotCrc : Told Next → Type 0
-NotCrc a = a ≡ refused 6 [] → ⊥
+NotCrc a = (values : List ℕ) → a ≡ refused 6 values → ⊥
 
 not-crc : (n : ℕ) (r : Refusal) → isStop Quick n r ≡ true → NotCrc (refusing r)
-unfolding isStop readsCrc
-not-crc n r h e =
-    let number : numberOf r ≡ numberOf Crc16 = cc in
-    let values : valuesOf r ≡ valuesOf Crc16 = cc in
-    let never : false ≡ true = rw (same-refusal r Crc16 number values) at h in
+not-crc n r h values e =
+    let number : numberOf r ≡ 6 = cc in
+    let never : false ≡ true = six-stops n r h number in
     let z : _≡_ {A = ℕ} 0 1 = cc in
     omega arith
 
@@ -218,7 +232,7 @@ module _ (n : ℕ) (s : Publisher) (quick : s .mode ≡ Quick) where
   unfolding goneOn
   gone-not k good =
       either (λ (t : Stepped). NotCrc (turnTold (t .answer))) (ltb k (totalIn s)) _ _
-      (λ _. λ e. let z : _≡_ {A = ℕ} 0 1 = cc in omega arith) (λ _. λ e. let z : _≡_ {A = ℕ} 0 1 = cc in omega arith)
+      (λ _. λ values e. let z : _≡_ {A = ℕ} 0 1 = cc in omega arith) (λ _. λ values e. let z : _≡_ {A = ℕ} 0 1 = cc in omega arith)
 
   judged-not : (k : ℕ) (j : Judged) → MayStop (s .mode) n j → NotCrc (turnTold (judgedTurn (totalIn s) (planIn s) s k j .answer))
   unfolding judgedTurn
@@ -228,7 +242,7 @@ module _ (n : ℕ) (s : Publisher) (quick : s .mode ≡ Quick) where
   turn-not : (g : Stage) (reply : Bool) → stageInRange (s .mode) n g ≡ true → NotCrc (turnTold (turnOf (totalIn s) (planIn s) s g reply .answer))
   unfolding turnOf stageInRange
   turn-not (Running k good) reply h = judged-not k _ (may-stop n s k good reply)
-  turn-not Done reply h = λ e. let z : _≡_ {A = ℕ} 0 1 = cc in omega arith
+  turn-not Done reply h = λ values e. let z : _≡_ {A = ℕ} 0 1 = cc in omega arith
   turn-not (Stopped r) reply h = not-crc n r (rw quick at h)
 
   pub call-not : (reply : Bool) → NotCrc (callAnswer n s reply)
@@ -237,4 +251,4 @@ module _ (n : ℕ) (s : Publisher) (quick : s .mode ≡ Quick) where
     where
       go : (t : Bool) → inRange n s ≡ t → NotCrc (judge t 2 (turnTold (turn s reply .answer)))
       go true h = turn-not (s .stage) reply (bounds n s h .stage)
-      go false h = λ e. let z : _≡_ {A = ℕ} 2 6 = cc in omega arith
+      go false h = λ values e. let z : _≡_ {A = ℕ} 2 6 = cc in omega arith

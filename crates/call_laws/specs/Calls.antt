@@ -54,7 +54,7 @@ pub record CallLaws (n : ℕ) : Type 0 where
   pub starts : (mode : WriteMode) (img new : List ℕ) (p : ℕ) → inRange n (startState n mode img new p) ≡ true
   pub keeps : (s : Publisher) (reply : Bool) → inRange n s ≡ true → inRange n (callState n s reply) ≡ true
   -- in the quick mode 6 is never told, whatever the state and the reply
-  pub no-crc : (s : Publisher) (reply : Bool) → s .mode ≡ Quick → callAnswer n s reply ≡ refused 6 [] → ⊥
+  pub no-crc : (s : Publisher) (reply : Bool) (values : List ℕ) → s .mode ≡ Quick → callAnswer n s reply ≡ refused 6 values → ⊥
   -- from a started state, whatever the replies, the events are the first of the plan
   pub ordered : (s : Publisher) (replies : List Bool) → s .stage ≡ Running 0 true → inRange n s ≡ true → length (planIn s) ≡ totalIn s
       → Begins (stepEvents (planIn s)) (eventsOf (answersTo n s replies))

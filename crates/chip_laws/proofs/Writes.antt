@@ -4,7 +4,7 @@ use mathlib.Core.Path.{_≡_, refl, sym, ap, _∙_, subst}
 use mathlib.Core.Bool.{Bool, true, false, cond}
 use mathlib.Core.List.{List, [], _∷_, _++_, append-nil, append-assoc}
 use native.Mathlib.Omega.{arith}
-use lib.Dec.{ltb, lit<}
+use lib.Dec.{ltb}
 use lib.ListN.{length, getD}
 use borrow.Author.Tests.{lt-ltb}
 use Rattle.terms.specs.Bits.{bitsOf, bitsOfBytes}
@@ -23,7 +23,7 @@ use Rattle.memory_stage.specs.declared.stage.Command.the-variants.{Write}
 use Rattle.memory_stage.specs.declared.stage.Incoming.the-variants.{Data as DataByte}
 use Rattle.memory_stage.specs.declared.stage.Outgoing.the-variants.{WriteCrc, ReadBack}
 use Rattle.memory_stage.specs.declared.stage.MemoryStage.{MemoryStage}
-use Rattle.memory_stage.specs.declared.stage.MemoryStage.the-variants.{Receive, Armed}
+use Rattle.memory_stage.specs.declared.stage.MemoryStage.the-variants.{Armed}
 use Rattle.memory_stage.specs.Limits.{limitOf, isAddress, keptAddress, targetAt}
 use Rattle.memory_stage.proofs.Addresses.{limit-fits}
 use Rattle.memory_stage.specs.Stages.{receiving}
@@ -39,7 +39,7 @@ use Rattle.chip.specs.Run.{Chip, run}
 use Rattle.chip_laws.specs.Session.{Ready, _at_, _holding_, Goes, Selection, crcEvents, crcLines, writeEvents, writeLines, beforeByte}
 use Rattle.chip_laws.specs.Laws.{isArmed, WriteLaws}
 use Rattle.chip_laws.proofs.Runs.{run-append, stays, _then_, event}
-use Rattle.chip_laws.proofs.Slots.{slots-append, lines-read, bits-length, ready, over-memory, byte-in, bits-unarmed}
+use Rattle.chip_laws.proofs.Slots.{lines-read, bits-length, ready, over-memory, byte-in, bits-unarmed}
 use Rattle.chip_laws.proofs.Sessions.{write-begins, write-byte, up-to-address}
 
 module _ (n : ℕ) (whole : n % 8 ≡ 0) where

@@ -15,9 +15,9 @@ use Rattle.publisher.specs.declared.Publisher.{Publisher}
 use Rattle.packing.specs.declared.front.Front.{Front}
 use Rattle.packing.specs.Front.{laid, frontAt, bytesFront, modeNumber, modeOf, stopFront, Fits, restAt, isCopy, bufferTold, bufferAfter, refusalOf}
 
--- The front: the mode (second: 0 ordinary, 1 quick), L, T and T's bitmap byte as found (page, other, count), and by kind. 0: running; so many events have been returned (first),
--- and the bits of the present CRC or byte have agreed so far (what: 1) or not (0). 1: done. 2: stopped by a refusal, its number (which) and
--- its value (value).
+-- The front: the mode (second: 0 ordinary, 1 quick), L, T and T's bitmap byte as found (page, other, count), and by kind. 0: running; so
+-- many events have been returned (first), and the bits of the present CRC or byte have agreed so far (what: 1) or not (0). 1: done.
+-- 2: stopped by a refusal, its number (which) and its value (value).
 
 unfoldable pub runningFront : ℕ → Bool → Front
 runningFront k good =
