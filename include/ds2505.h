@@ -1,6 +1,7 @@
 /*
  * The DS2505 in C: a chip driven by bus events, masters that read its number
- * or a page, a publisher that supersedes a page, stored sheets and their list.
+ * or a page, a publisher that supersedes a page, stored sheets and their list,
+ * the variation at a latitude and a column.
  *
  * docs/C-INTERFACE.md says how to build and link the library, what each byte
  * of a packed state means, and what is promised to a caller.
@@ -35,6 +36,12 @@
  * Answers. A buffer for an answer has 16 bytes. Its first byte is an event, or
  * 0xFF where no event is told; the values named in the comment follow from the
  * second byte on. All other bytes of the buffer stay as they were.
+ *
+ * Tenths. A latitude, a value of the variation and the change between two are
+ * signed tenths of a degree. Those that a function is given are an int32_t. In
+ * an answer there are two bytes, the low one first, two's complement: with
+ * x = answer[1] + 256 * answer[2] the number is x while x is below 0x8000, and
+ * x - 0x10000 from there on.
  *
  * Modes. The ordinary mode writes with 0Fh and 55h, and each byte's CRC is
  * compared before its pulse. The quick mode, the data sheet's speed-programming
@@ -126,6 +133,15 @@ extern "C" {
 #define DS2505_REFUSED_CRC8 14
 /* the family of a registration number isn't 0Bh */
 #define DS2505_REFUSED_FAMILY 15
+/* the header of the rows is faulty */
+#define DS2505_REFUSED_HEADER 16
+/* the latitude is below the first row, or at or past the last row's upper
+   edge */
+#define DS2505_REFUSED_LATITUDE 17
+/* the rows have no such column */
+#define DS2505_REFUSED_COLUMN 18
+/* a value is 7FFFh, which means that there is none, or isn't -1800 to 1799 */
+#define DS2505_REFUSED_NO_VALUE 19
 
 /* ---- CRCs --------------------------------------------------------------- */
 
@@ -407,6 +423,56 @@ uint32_t ds2505_sheet_read(const uint8_t *sheet, size_t sheet_size,
 uint32_t ds2505_list(const uint8_t *sheet, size_t sheet_size,
                      uint8_t *text, size_t text_size,
                      uint8_t *answer, size_t answer_size);
+
+/* ---- the variation ------------------------------------------------------ */
+
+/* The final page of page 1's chain is the header of the rows; each number of
+   two bytes has its low byte first:
+     0, 1     the count of rows, 1 to 15
+     2, 3     the count of columns, 1 to 16
+     4, 5     the southern edge in tenths of a degree, signed
+     6, 7     the height of a row in tenths of a degree, 1 to 65,535
+     8, 9     0
+     10 on    for each row the number of its page, 0 to 63
+     then     0xFF to the end of the page
+   Rows and columns count from 0. Row i covers the latitudes from i heights
+   above the southern edge on, up to but not including i + 1 heights above it.
+   The final page of the chain of a row's page begins with a value for each
+   column: two bytes, low byte first, signed tenths of a degree from -1800 to
+   1799, or 0x7FFF for none. */
+
+/* The variation at a latitude and a column. With code 0 the answer is 0xFF and
+   the value, low byte, high byte; with 5 it is 0xFF and the number above 63.
+     image    2,368 bytes
+     latitude any number, in tenths of a degree
+     column   any number
+     answer   16 bytes
+   Codes: 10 for the answer, 1, 4 or 5 for page 1, 16, 17, 18, 4 or 5 for the
+   row's page, 19. */
+uint32_t ds2505_variation(const uint8_t *image, size_t image_size,
+                          int32_t latitude, uint32_t column,
+                          uint8_t *answer, size_t answer_size);
+
+/* As ds2505_variation, on the image of a stored sheet.
+     sheet    2,392 bytes
+     latitude any number, in tenths of a degree
+     column   any number
+     answer   16 bytes
+   Codes: 10 for the answer, 12 (for another length of the sheet too), 4 or 5
+   for page 1, 16, 17, 18, 4 or 5 for the row's page, 19. */
+uint32_t ds2505_sheet_variation(const uint8_t *sheet, size_t sheet_size,
+                                int32_t latitude, uint32_t column,
+                                uint8_t *answer, size_t answer_size);
+
+/* The year's change between two values: new_value less old_value, brought into
+   -1800 to 1799 by 3600. With code 0 the answer is 0xFF and the change, low
+   byte, high byte.
+     old_value, new_value
+              any numbers, in tenths of a degree
+     answer   16 bytes
+   Codes: 10 for the answer, 19 for either value. */
+uint32_t ds2505_change(int32_t old_value, int32_t new_value,
+                       uint8_t *answer, size_t answer_size);
 
 #ifdef __cplusplus
 }

@@ -196,6 +196,23 @@ mod c {
             answer: *mut u8,
             answer_size: usize,
         ) -> u32;
+        pub fn ds2505_variation(
+            image: *const u8,
+            image_size: usize,
+            latitude: i32,
+            column: u32,
+            answer: *mut u8,
+            answer_size: usize,
+        ) -> u32;
+        pub fn ds2505_sheet_variation(
+            sheet: *const u8,
+            sheet_size: usize,
+            latitude: i32,
+            column: u32,
+            answer: *mut u8,
+            answer_size: usize,
+        ) -> u32;
+        pub fn ds2505_change(old: i32, new: i32, answer: *mut u8, answer_size: usize) -> u32;
     }
 }
 
@@ -420,4 +437,21 @@ pub fn list(sheet: &[u8], text: &mut [u8], answer: &mut [u8]) -> u32 {
     let (t, t_size) = write(text);
     let (a, a_size) = write(answer);
     unsafe { c::ds2505_list(s, s_size, t, t_size, a, a_size) }
+}
+
+pub fn variation(image: &[u8], latitude: i32, column: u32, answer: &mut [u8]) -> u32 {
+    let (i, i_size) = read(image);
+    let (a, a_size) = write(answer);
+    unsafe { c::ds2505_variation(i, i_size, latitude, column, a, a_size) }
+}
+
+pub fn sheet_variation(sheet: &[u8], latitude: i32, column: u32, answer: &mut [u8]) -> u32 {
+    let (s, s_size) = read(sheet);
+    let (a, a_size) = write(answer);
+    unsafe { c::ds2505_sheet_variation(s, s_size, latitude, column, a, a_size) }
+}
+
+pub fn change(old: i32, new: i32, answer: &mut [u8]) -> u32 {
+    let (a, a_size) = write(answer);
+    unsafe { c::ds2505_change(old, new, a, a_size) }
 }

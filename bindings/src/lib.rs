@@ -4,11 +4,13 @@
 //! `include/ds2505.h` describes them. Over them stand types: events, verdicts,
 //! refusals, the chip, the two reading masters and the publisher. Where the C
 //! interface has a function for each mode of writing, the mode is an argument.
+//! Latitudes, values of the variation and changes are tenths of a degree.
 
 pub mod calls;
 
 mod chip;
 mod image;
+mod lookup;
 mod number_read;
 mod page_read;
 mod publisher;
@@ -17,6 +19,7 @@ mod sheet;
 pub use calls::{crc16, crc8};
 pub use chip::{chip_run, Chip};
 pub use image::{free_page, page, update, walk, Verdict};
+pub use lookup::{change, sheet_variation, variation};
 pub use number_read::{number_run, NumberRead};
 pub use page_read::{page_run, Final, PageRead};
 pub use publisher::{publisher_run, Published, Publisher};
@@ -107,6 +110,10 @@ impl Refusal {
             13 => "a reset drew the reply 1",
             14 => "the CRC-8 of the number is wrong",
             15 => "the family of the number isn't 0Bh",
+            16 => "the header of the rows is faulty",
+            17 => "the latitude is in no row",
+            18 => "the rows have no such column",
+            19 => "a value is 7FFFh or out of range",
             _ => "no refusal of this interface",
         }
     }

@@ -84,7 +84,7 @@ fn every_function_from_c_and_from_cpp() {
             .arg("-I")
             .arg(top().join("include")));
         compile(compiler, &[], &object, &program);
-        assert_eq!(run(&mut Command::new(&program)), "all 24 functions\n");
+        assert_eq!(run(&mut Command::new(&program)), "all 27 functions\n");
     }
 }
 
@@ -109,7 +109,7 @@ fn functions(text: &str, mark: &str) -> Vec<String> {
 #[test]
 fn header_document_and_bindings_name_the_same_functions() {
     let header = functions(&read("include/ds2505.h"), "(");
-    assert_eq!(header.len(), 24);
+    assert_eq!(header.len(), 27);
     let document = read("docs/C-INTERFACE.md");
     let table: String = document
         .lines()

@@ -240,6 +240,74 @@ static int sheets(void)
     return 0;
 }
 
+/* The tenths in an answer. */
+static int tenths(void)
+{
+    int x = answer[1] + 256 * answer[2];
+    return x < 0x8000 ? x : x - 0x10000;
+}
+
+/* A header of two rows and three columns on page 1, from 60.0 degrees south
+   on, rows of 2.5 degrees; page 6 is superseded by page 63. */
+static int the_variation(void)
+{
+    const uint8_t header[12] = {2, 0, 3, 0, 0xA8, 0xFD, 25, 0, 0, 0, 6, 5};
+    const uint8_t first[6] = {0xF8, 0xF8, 0x07, 0x07, 0xFF, 0x7F};
+    const uint8_t second[6] = {0xFF, 0xFF, 0x2C, 0x01, 0x08, 0x07};
+    memset(image, 0xFF, sizeof image);
+    memcpy(image + 32, header, sizeof header);
+    image[DS2505_STATUS_OFFSET + DS2505_REDIRECTION + 6] = 255 - 63;
+    memcpy(image + 32 * 63, first, sizeof first);
+    memcpy(image + 32 * 5, second, sizeof second);
+    CHECK(ds2505_variation(image, sizeof image, -600, 0, answer, sizeof answer)
+          == DS2505_ACCEPTED);
+    CHECK(answer[0] == DS2505_NO_EVENT && tenths() == -1800);
+    CHECK(ds2505_variation(image, sizeof image, -576, 1, answer, sizeof answer)
+          == DS2505_ACCEPTED);
+    CHECK(tenths() == 1799);
+    CHECK(ds2505_variation(image, sizeof image, -575, 0, answer, sizeof answer)
+          == DS2505_ACCEPTED);
+    CHECK(tenths() == -1);
+    CHECK(ds2505_variation(image, sizeof image, -576, 2, answer, sizeof answer)
+          == DS2505_REFUSED_NO_VALUE);
+    CHECK(ds2505_variation(image, sizeof image, -551, 2, answer, sizeof answer)
+          == DS2505_REFUSED_NO_VALUE);
+    CHECK(ds2505_variation(image, sizeof image, -551, 3, answer, sizeof answer)
+          == DS2505_REFUSED_COLUMN);
+    CHECK(ds2505_variation(image, sizeof image, -550, UINT32_MAX, answer,
+                           sizeof answer) == DS2505_REFUSED_LATITUDE);
+    CHECK(ds2505_variation(image, sizeof image, INT32_MIN, 0, answer,
+                           sizeof answer) == DS2505_REFUSED_LATITUDE);
+    CHECK(ds2505_sheet_write(number, sizeof number, image, sizeof image, sheet,
+                             sizeof sheet) == DS2505_ACCEPTED);
+    CHECK(ds2505_sheet_variation(sheet, sizeof sheet, -551, 1, answer,
+                                 sizeof answer) == DS2505_ACCEPTED);
+    CHECK(answer[0] == DS2505_NO_EVENT && tenths() == 300);
+    sheet[0] = 63;
+    CHECK(ds2505_sheet_variation(sheet, sizeof sheet, -551, 1, answer,
+                                 sizeof answer) == DS2505_REFUSED_SHEET);
+    image[DS2505_STATUS_OFFSET + DS2505_REDIRECTION + 63] = 255 - 200;
+    CHECK(ds2505_variation(image, sizeof image, -600, 0, answer, sizeof answer)
+          == DS2505_REFUSED_OUTSIDE);
+    CHECK(answer[0] == DS2505_NO_EVENT && answer[1] == 200);
+    image[DS2505_STATUS_OFFSET + DS2505_REDIRECTION + 63] = 255 - 6;
+    CHECK(ds2505_variation(image, sizeof image, -600, 0, answer, sizeof answer)
+          == DS2505_REFUSED_LOOP);
+    image[32 + 31] = 0;
+    CHECK(ds2505_variation(image, sizeof image, -600, 0, answer, sizeof answer)
+          == DS2505_REFUSED_HEADER);
+    CHECK(ds2505_change(1799, -1800, answer, sizeof answer)
+          == DS2505_ACCEPTED);
+    CHECK(answer[0] == DS2505_NO_EVENT && tenths() == 1);
+    CHECK(ds2505_change(-900, 900, answer, sizeof answer) == DS2505_ACCEPTED);
+    CHECK(tenths() == -1800);
+    CHECK(ds2505_change(0, 0x7FFF, answer, sizeof answer)
+          == DS2505_REFUSED_NO_VALUE);
+    CHECK(ds2505_change(INT32_MIN, 0, answer, sizeof answer)
+          == DS2505_REFUSED_NO_VALUE);
+    return 0;
+}
+
 /* A null pointer is allowed with length 0, and is judged by its length. */
 static int nothing(void)
 {
@@ -300,14 +368,19 @@ static int nothing(void)
     CHECK(ds2505_list(NULL, 0, NULL, 0, NULL, 0) == 10);
     CHECK(ds2505_list(NULL, 0, text, sizeof text, answer, sizeof answer)
           == 12);
+    CHECK(ds2505_variation(NULL, 0, 0, 0, NULL, 0) == 10);
+    CHECK(ds2505_variation(NULL, 0, 0, 0, answer, sizeof answer) == 1);
+    CHECK(ds2505_sheet_variation(NULL, 0, 0, 0, NULL, 0) == 10);
+    CHECK(ds2505_sheet_variation(NULL, 0, 0, 0, answer, sizeof answer) == 12);
+    CHECK(ds2505_change(0, 0, NULL, 0) == 10);
     return 0;
 }
 
 int main(void)
 {
     if (crcs() || on_an_image() || number_read() || page_read()
-        || publish_twice() || sheets() || nothing())
+        || publish_twice() || sheets() || the_variation() || nothing())
         return 1;
-    puts("all 24 functions");
+    puts("all 27 functions");
     return 0;
 }

@@ -9,22 +9,33 @@ mod common;
 
 use std::cmp::Ordering;
 
-use common::{clear_bit, status};
+use common::{clear_bit, header_of, lead, plug, put_page, status, value_on};
 use ds2505::{calls, Event};
 use ds2505_model::chip::Chip as ModelChip;
 use ds2505_model::memory::blank_image;
 use ds2505_model::random::Generator;
 
-/// A call: its buffers in the order of the header, and a page or a reply.
+/// A call: its buffers in the order of the header, and what else it is given.
 #[derive(Clone, Debug, PartialEq, Eq)]
 struct Call {
     buffers: Vec<Vec<u8>>,
+    /// A page or a reply.
     small: u8,
+    /// A latitude, or the old value of a change.
+    tenths: i32,
+    column: u32,
+    new_value: i32,
 }
 
 impl Call {
     fn new(buffers: Vec<Vec<u8>>, small: u8) -> Call {
-        Call { buffers, small }
+        Call {
+            buffers,
+            small,
+            tenths: 0,
+            column: 0,
+            new_value: 0,
+        }
     }
 }
 
@@ -35,7 +46,8 @@ struct Fault {
     /// The value put into the answer, and which buffer that is.
     value: Option<(usize, u8)>,
     spoil: Spoil,
-    /// Faults with the same group number exclude each other.
+    /// Faults with the same group number, which stand together, exclude each
+    /// other; 0 is no group.
     group: u32,
 }
 
@@ -58,8 +70,11 @@ fn assert_order(name: &str, function: impl Fn(&mut Call) -> u32, good: &Call, fa
             .filter(|&(place, _)| set >> place & 1 == 1)
             .map(|(_, fault)| fault)
             .collect();
-        let grouped = chosen.iter().filter(|fault| fault.group != 0).count();
-        if grouped > 1 {
+        let mut groups: Vec<u32> = chosen.iter().map(|fault| fault.group).collect();
+        groups.retain(|&group| group != 0);
+        let grouped = groups.len();
+        groups.dedup();
+        if groups.len() < grouped {
             continue;
         }
         let mut call = good.clone();
@@ -176,6 +191,26 @@ fn publisher_state(start: PublisherStart, calls: &[u8]) -> Vec<u8> {
         assert_eq!(calls::publisher_call(&mut state, reply, &mut [0; 16]), 0);
     }
     state
+}
+
+/// A plug whose header is on page 30 and whose row for -5.0 degrees is on page
+/// 20, both behind one redirection byte.
+fn plug_with_rows() -> Vec<u8> {
+    let header = header_of(4, -100, 50, &[9, 8, 7]).bytes();
+    let mut image = plug(&[0; 32]);
+    put_page(&mut image, 30, &header);
+    lead(&mut image, &[1, 30]);
+    lead(&mut image, &[8, 20]);
+    image
+}
+
+/// The call for the last column of that row.
+fn variation_call(buffer: Vec<u8>) -> Call {
+    Call {
+        tenths: -50,
+        column: 3,
+        ..Call::new(vec![buffer, mark(16)], 0)
+    }
 }
 
 /// The replies of a chip to a whole page read.
@@ -347,6 +382,24 @@ fn list(call: &mut Call) -> u32 {
     calls::list(sheet, text, answer)
 }
 
+fn variation(call: &mut Call) -> u32 {
+    let [image, answer] = &mut call.buffers[..] else {
+        panic!()
+    };
+    calls::variation(image, call.tenths, call.column, answer)
+}
+
+fn sheet_variation(call: &mut Call) -> u32 {
+    let [sheet, answer] = &mut call.buffers[..] else {
+        panic!()
+    };
+    calls::sheet_variation(sheet, call.tenths, call.column, answer)
+}
+
+fn change(call: &mut Call) -> u32 {
+    calls::change(call.tenths, call.new_value, &mut call.buffers[0])
+}
+
 // ---- faults that several functions have
 
 /// The image's redirection bytes make the page's chain a loop.
@@ -386,6 +439,38 @@ fn update_faults(answer: usize) -> [Fault; 5] {
             ..fault(9, |call| protect(call, 0))
         },
         fault(8, |call| use_all(call, 0)),
+    ]
+}
+
+/// 4 and 5 of page 1, 16, 17, 18, 4 and 5 of the row's page, and 19 of a call
+/// for the variation, with the image from this place on in its first buffer.
+fn variation_faults<const FROM: usize>() -> [Fault; 8] {
+    [
+        Fault {
+            group: 1,
+            ..fault(4, |call| lead(&mut call.buffers[0][FROM..], &[30, 1]))
+        },
+        Fault {
+            group: 1,
+            value: Some((1, 200)),
+            ..fault(5, |call| lead(&mut call.buffers[0][FROM..], &[30, 200]))
+        },
+        fault(16, |call| call.buffers[0][FROM + 32 * 30 + 9] = 1),
+        fault(17, |call| call.tenths = 50),
+        fault(18, |call| call.column = 4),
+        Fault {
+            group: 2,
+            ..fault(4, |call| lead(&mut call.buffers[0][FROM..], &[20, 8]))
+        },
+        Fault {
+            group: 2,
+            value: Some((1, 100)),
+            ..fault(5, |call| lead(&mut call.buffers[0][FROM..], &[20, 100]))
+        },
+        fault(19, |call| {
+            let place = FROM + 32 * 20 + 2 * 3;
+            call.buffers[0][place..place + 2].copy_from_slice(&[0xFF, 0x7F]);
+        }),
     ]
 }
 
@@ -706,6 +791,67 @@ fn the_sheet() {
     assert_lengths("list", list, &good, 2, other_lengths(10));
 }
 
+#[test]
+fn the_variation() {
+    let good = variation_call(plug_with_rows());
+    let faults = with(
+        vec![
+            fault(10, |call| shorten(call, 1)),
+            fault(1, |call| lengthen(call, 0)),
+        ],
+        variation_faults::<0>(),
+    );
+    assert_order("variation", variation, &good, &faults);
+    assert_lengths("variation", variation, &good, 0, other_lengths(1));
+    assert_lengths("variation", variation, &good, 1, other_lengths(10));
+
+    let mut sheet = vec![0; 2392];
+    let code = calls::sheet_write(&NUMBER, &plug_with_rows(), &mut sheet);
+    assert_eq!(code, 0);
+    let good = variation_call(sheet);
+    for spoil in [
+        (|call| shorten(call, 0)) as Spoil,
+        |call| lengthen(call, 0),
+        |call| call.buffers[0][3] = 1,
+        |call| call.buffers[0][24 + status(0x0FF)] = 0xFE,
+    ] {
+        let faults = with(
+            vec![fault(10, |call| lengthen(call, 1)), fault(12, spoil)],
+            variation_faults::<24>(),
+        );
+        assert_order("sheet_variation", sheet_variation, &good, &faults);
+    }
+    assert_lengths(
+        "sheet_variation",
+        sheet_variation,
+        &good,
+        0,
+        other_lengths(12),
+    );
+    assert_lengths(
+        "sheet_variation",
+        sheet_variation,
+        &good,
+        1,
+        other_lengths(10),
+    );
+
+    let good = Call {
+        tenths: 1799,
+        new_value: -1800,
+        ..Call::new(vec![mark(16)], 0)
+    };
+    for spoil in [
+        (|call| call.tenths = 1800) as Spoil,
+        |call| call.new_value = -1801,
+        |call| (call.tenths, call.new_value) = (0x7FFF, i32::MIN),
+    ] {
+        let faults = [fault(10, |call| shorten(call, 0)), fault(19, spoil)];
+        assert_order("change", change, &good, &faults);
+    }
+    assert_lengths("change", change, &good, 0, other_lengths(10));
+}
+
 /// Bytes that are no event or no reply, at every place of a call.
 #[test]
 fn bytes_that_are_no_event_or_reply() {
@@ -792,6 +938,30 @@ fn what_accepted_calls_write() {
         assert_eq!(call.buffers[3][..3], [0xFF, 9, 1]);
         assert_eq!(call.buffers[3][3..], mark(16)[3..]);
     }
+
+    let [low, high] = value_on(20, 3).to_le_bytes();
+    let mut sheet = vec![0; 2392];
+    let code = calls::sheet_write(&NUMBER, &plug_with_rows(), &mut sheet);
+    assert_eq!(code, 0);
+    for (function, buffer) in [
+        (variation as fn(&mut Call) -> u32, plug_with_rows()),
+        (sheet_variation, sheet),
+    ] {
+        let mut call = variation_call(buffer.clone());
+        assert_eq!(function(&mut call), 0);
+        assert_eq!(call.buffers[0], buffer);
+        assert_eq!(call.buffers[1][..3], [0xFF, low, high]);
+        assert_eq!(call.buffers[1][3..], mark(16)[3..]);
+    }
+
+    let mut call = Call {
+        tenths: 1700,
+        new_value: -1701,
+        ..Call::new(vec![mark(16)], 0)
+    };
+    assert_eq!(change(&mut call), 0);
+    assert_eq!(call.buffers[0][..3], [0xFF, 199, 0]);
+    assert_eq!(call.buffers[0][3..], mark(16)[3..]);
 
     // The start of an update in a run: a reset, then CCh and the command.
     let mut runs = Vec::new();

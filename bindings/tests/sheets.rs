@@ -2,26 +2,17 @@
 
 mod common;
 
-use common::{refusal, some_image, some_number};
+use common::{blank_gaps, refusal, some_image, some_number};
 use ds2505::{calls, crc16, crc8, list, sheet_read, sheet_write, Refusal};
 use ds2505_model as model;
 use ds2505_model::crc::Crc16;
-use ds2505_model::memory::{blank_image, StatusAddress, StatusMeaning};
+use ds2505_model::memory::blank_image;
 use ds2505_model::random::Generator;
 
 const FAULTY: Refusal = Refusal {
     number: 12,
     value: None,
 };
-
-/// Makes the gaps of an image FFh.
-fn blank_gaps(image: &mut [u8]) {
-    for address in StatusAddress::all() {
-        if address.meaning() == StatusMeaning::Gap {
-            image[common::status(usize::from(address.number()))] = 0xFF;
-        }
-    }
-}
 
 fn assert_same_list(sheet: &[u8]) {
     let text = match list(sheet) {

@@ -372,7 +372,7 @@ fn assert_made_up(g: &mut Generator, machine: &Machine, length: usize) {
                 16.. => g.byte(),
                 _ if !g.once_in(sparse) => 0,
                 1 => g.below(11) as u8,
-                3 => g.below(17) as u8,
+                3 => g.below(21) as u8,
                 8 => g.below(9) as u8,
                 9 if g.bit() => g.below(3) as u8,
                 _ if g.once_in(2) => g.below(18) as u8,
@@ -471,6 +471,40 @@ fn page_states() {
     }
     assert_damaged(&mut g, &PAGE, &states);
     assert_made_up(&mut g, &PAGE, 48);
+}
+
+/// The refusals by which a reading master can be stopped, of all numbers that
+/// there are: those of the variation are none of them.
+#[test]
+fn stopped_states_of_reading_masters() {
+    let mut g = Generator::new(609);
+    let number: [u8; 8] = g.bytes();
+    let page: [u8; 32] = g.bytes();
+    for which in 0..=255 {
+        for value in 0..=255 {
+            let stop = Front {
+                kind: 6,
+                which,
+                value,
+                ..Front::default()
+            };
+            let mut state: [u8; 24] = packed(stop, &number);
+            let expected = match (which, value) {
+                (13..=15, 0) => which,
+                _ => 2,
+            };
+            let code = (NUMBER.step)(&mut g, &mut state);
+            assert_eq!(code, u32::from(expected), "{which} {value}");
+
+            let mut state: [u8; 48] = packed(stop, &page);
+            let expected = match (which, value) {
+                (3 | 4 | 6 | 13, 0) | (5, 64..) => which,
+                _ => 2,
+            };
+            let code = (PAGE.step)(&mut g, &mut state);
+            assert_eq!(code, u32::from(expected), "{which} {value}");
+        }
+    }
 }
 
 /// Every state of the chip in a quick write: no event leaves it as it is. With

@@ -31,6 +31,14 @@ pub enum Reason {
     Crc8,
     /// The family of a registration number isn't 0Bh.
     Family,
+    /// The header of the rows is faulty.
+    Header,
+    /// The latitude is in no row.
+    Latitude,
+    /// The rows have no such column.
+    Column,
+    /// The value is 7FFFh or out of its range.
+    NoValue,
 }
 
 /// What happened to a master's state in the refused call.
@@ -93,6 +101,10 @@ impl Refusal {
             Reason::NoPresence => 13,
             Reason::Crc8 => 14,
             Reason::Family => 15,
+            Reason::Header => 16,
+            Reason::Latitude => 17,
+            Reason::Column => 18,
+            Reason::NoValue => 19,
         }
     }
 

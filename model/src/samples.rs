@@ -2,8 +2,10 @@
 
 use crate::chip::WriteMode;
 use crate::crc::crc8;
+use crate::lookup::Header;
 use crate::memory::{
-    blank_image, StatusAddress, StatusMeaning, DATA_LENGTH, REDIRECTION, USED_BITMAP,
+    blank_image, Page, StatusAddress, StatusMeaning, DATA_LENGTH, PAGE_LENGTH, REDIRECTION,
+    USED_BITMAP,
 };
 use crate::publisher;
 use crate::random::{any_image, chain_image, used_image, Generator};
@@ -16,12 +18,27 @@ pub fn number() -> [u8; 8] {
     bytes
 }
 
-fn redirect(image: &mut [u8], page: usize, byte: u8) {
+pub(crate) fn redirect(image: &mut [u8], page: usize, byte: u8) {
     image[DATA_LENGTH + usize::from(REDIRECTION) + page] = byte;
 }
 
 fn mark_used(image: &mut [u8], page: usize) {
     image[DATA_LENGTH + usize::from(USED_BITMAP) + page / 8] &= !(1 << (page % 8));
+}
+
+/// Writes a page's own 32 bytes.
+pub(crate) fn put_page(image: &mut [u8], page: usize, bytes: &[u8; PAGE_LENGTH]) {
+    image[PAGE_LENGTH * page..PAGE_LENGTH * (page + 1)].copy_from_slice(bytes);
+}
+
+/// A page that begins with these values, two bytes each, and is blank after
+/// them.
+pub(crate) fn row_of_values(values: &[i16]) -> [u8; PAGE_LENGTH] {
+    let mut page = [0xFF; PAGE_LENGTH];
+    for (bytes, value) in page.chunks_exact_mut(2).zip(values) {
+        bytes.copy_from_slice(&value.to_le_bytes());
+    }
+    page
 }
 
 /// A page of sixteen values, two bytes each, signed tenths of a degree.
@@ -76,12 +93,57 @@ fn full() -> Vec<u8> {
     image
 }
 
-fn stored(image: &[u8]) -> Vec<u8> {
+/// The header of the plug for looking up: six rows of 2.5 degrees from 60.0
+/// degrees north, twelve columns.
+pub(crate) fn variation_header() -> Header {
+    Header {
+        columns: 12,
+        southern_edge: 600,
+        row_height: 25,
+        pages: (2..=7).filter_map(Page::new).collect(),
+    }
+}
+
+/// A row of that plug in a year: from west in the first column to east in the
+/// last, the more so the further north. The northernmost row has no value in
+/// its last column.
+pub(crate) fn variation_row(row: i16, year: i16) -> [u8; PAGE_LENGTH] {
+    let mut values: Vec<i16> = (0..12)
+        .map(|column| (34 + 3 * row) * column - 187 - 11 * row + 2 * year)
+        .collect();
+    if row == 5 {
+        values[11] = 0x7FFF;
+    }
+    row_of_values(&values)
+}
+
+/// A plug as a planner gets it: the header on page 1, a row on each of pages 2
+/// to 7, and the third row superseded once.
+pub(crate) fn variation() -> Vec<u8> {
+    let mut image = blank_image();
+    put_page(&mut image, 1, &variation_header().bytes());
+    for row in 0..6 {
+        put_page(&mut image, row + 2, &variation_row(row as i16, 0));
+    }
+    (1..=7).for_each(|page| mark_used(&mut image, page));
+    publisher::update(&image, &variation_row(2, 1), 4, WriteMode::Ordinary, None)
+        .expect("there is a free page")
+        .image
+}
+
+pub(crate) fn stored(image: &[u8]) -> Vec<u8> {
     sheet::write(number(), image).expect("the image can be stored")
 }
 
 /// The samples that are shipped, by name.
 pub fn shipped() -> Vec<(&'static str, Vec<u8>)> {
+    let mut samples = listed();
+    samples.push(("variation", stored(&variation())));
+    samples
+}
+
+/// The samples that show the list.
+fn listed() -> Vec<(&'static str, Vec<u8>)> {
     vec![
         ("blank", stored(&blank_image())),
         ("example", stored(&example())),
@@ -92,18 +154,18 @@ pub fn shipped() -> Vec<(&'static str, Vec<u8>)> {
 }
 
 /// An image with FFh at each gap, as a sheet must have it.
-fn gaps_blank(mut image: Vec<u8>) -> Vec<u8> {
+pub(crate) fn gaps_blank(mut image: Vec<u8>) -> Vec<u8> {
     for address in StatusAddress::all().filter(|a| a.meaning() == StatusMeaning::Gap) {
         image[DATA_LENGTH + usize::from(address.number())] = 0xFF;
     }
     image
 }
 
-/// Many sheets to be listed: the shipped ones, chains of several lengths with
+/// Many sheets to be listed: shipped ones, chains of several lengths with
 /// their three ends, used and random images, and faulty ones of all kinds.
 pub fn cases() -> Vec<Vec<u8>> {
     let mut generator = Generator::new(12);
-    let mut cases: Vec<Vec<u8>> = shipped().into_iter().map(|(_, sheet)| sheet).collect();
+    let mut cases: Vec<Vec<u8>> = listed().into_iter().map(|(_, sheet)| sheet).collect();
     for length in [1usize, 2, 9, 62, 63] {
         let pages: Vec<u8> = (0..=length as u8).collect();
         for last in [0xFF, 255 - 1, 255 - 200] {

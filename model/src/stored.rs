@@ -3,7 +3,7 @@
 
 use std::path::{Path, PathBuf};
 
-use crate::{samples, sheet, tray};
+use crate::{lookup, lookup_cases, samples, sheet, tray};
 
 /// Each stored file, with the bytes that it must hold.
 pub fn files() -> Vec<(PathBuf, Vec<u8>)> {
@@ -23,12 +23,25 @@ pub fn files() -> Vec<(PathBuf, Vec<u8>)> {
             "crates/list_cases/stdout".into(),
             samples::cases_output().into_bytes(),
         ),
+        ("crates/variation_cases/stdin".into(), lookup_cases::input()),
+        (
+            "crates/variation_cases/stdout".into(),
+            lookup_cases::output().into_bytes(),
+        ),
     ];
     for (name, bytes) in samples::shipped() {
         let text = sheet::list(&bytes).into_bytes();
         if name == "example" {
             files.push(("crates/list/stdin".to_string(), bytes.clone()));
             files.push(("crates/list/stdout".to_string(), text.clone()));
+        }
+        if name == "variation" {
+            let (latitude, column) = (660, 2);
+            let answer = lookup::line(lookup::sheet_value(&bytes, latitude, column));
+            let words = format!("{latitude}\n{column}\n");
+            files.push(("crates/variation/args".to_string(), words.into_bytes()));
+            files.push(("crates/variation/stdin".to_string(), bytes.clone()));
+            files.push(("crates/variation/stdout".to_string(), answer.into_bytes()));
         }
         files.push((format!("samples/{name}.sheet"), bytes));
         files.push((format!("samples/{name}.list"), text));

@@ -1,12 +1,13 @@
 //! What the tests share: the second model's terms as those of the interface,
-//! sessions for a chip, and replies for a master.
+//! images, plugs with rows of values, sessions for a chip, and replies for a
+//! master.
 #![allow(dead_code)]
 
 use ds2505::{Answer, Event, Final, Published, Refusal, Verdict, WriteMode};
 use ds2505_model as model;
 use ds2505_model::bits::{bits_of, bits_of_byte};
 use ds2505_model::crc::crc8;
-use ds2505_model::memory::{blank_image, DATA_LENGTH};
+use ds2505_model::memory::{blank_image, StatusAddress, StatusMeaning, DATA_LENGTH};
 use ds2505_model::random::{any_image, chain_image, used_image, Generator};
 
 // ---- the model's terms
@@ -135,6 +136,62 @@ pub fn status(address: usize) -> usize {
 
 pub fn clear_bit(image: &mut [u8], field: usize, page: usize) {
     image[status(field + page / 8)] &= !(1u8 << (page % 8));
+}
+
+/// Writes a page's own 32 bytes.
+pub fn put_page(image: &mut [u8], page: u8, bytes: &[u8; 32]) {
+    let place = 32 * usize::from(page);
+    image[place..place + 32].copy_from_slice(bytes);
+}
+
+/// Each page in the list leads to the next number.
+pub fn lead(image: &mut [u8], numbers: &[u8]) {
+    for pair in numbers.windows(2) {
+        image[status(0x100 + usize::from(pair[0]))] = 255 - pair[1];
+    }
+}
+
+/// The header of rows with these pages.
+pub fn header_of(
+    columns: u16,
+    southern_edge: i16,
+    row_height: u16,
+    pages: &[u8],
+) -> model::lookup::Header {
+    let page = |&number: &u8| model::memory::Page::new(number).expect("it is a page");
+    model::lookup::Header {
+        columns,
+        southern_edge,
+        row_height,
+        pages: pages.iter().map(page).collect(),
+    }
+}
+
+/// The value that a plug holds on a page in a column: a different one for each
+/// two, of both signs.
+pub fn value_on(page: u8, column: u32) -> i16 {
+    20 * i16::from(page) + column as i16 - 700
+}
+
+/// A plug with this first page, and those values on all others.
+pub fn plug(first: &[u8; 32]) -> Vec<u8> {
+    let mut image = blank_image();
+    for page in 0..64 {
+        let value = |column: u32| value_on(page, column).to_le_bytes();
+        let bytes: Vec<u8> = (0..16).flat_map(value).collect();
+        put_page(&mut image, page, &bytes.try_into().unwrap());
+    }
+    put_page(&mut image, 1, first);
+    image
+}
+
+/// Makes the gaps of an image FFh, as a sheet must have them.
+pub fn blank_gaps(image: &mut [u8]) {
+    for address in StatusAddress::all() {
+        if address.meaning() == StatusMeaning::Gap {
+            image[status(usize::from(address.number()))] = 0xFF;
+        }
+    }
 }
 
 /// An image of one of several kinds.

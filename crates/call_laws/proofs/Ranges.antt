@@ -14,7 +14,7 @@ use Rattle.terms.specs.declared.address.Page.{Page}
 use Rattle.terms.specs.declared.verdict.Verdict.{Verdict}
 use Rattle.terms.specs.declared.verdict.Verdict.the-variants.{Final, Loop, Outside}
 use Rattle.terms.specs.declared.refusal.Refusal.{Refusal}
-use Rattle.terms.specs.declared.refusal.Refusal.the-variants.{ImageLength, StateRange, PageNumber, Loop as LoopRefusal, Outside as OutsideRefusal, Crc16, ReadBack, NoFreePage, RedirectionProtected, BufferLength, Sheet, NoPresence, Crc8, Family}
+use Rattle.terms.specs.declared.refusal.Refusal.the-variants.{ImageLength, StateRange, PageNumber, Loop as LoopRefusal, Outside as OutsideRefusal, Crc16, ReadBack, NoFreePage, RedirectionProtected, BufferLength, Sheet, NoPresence, Crc8, Family, Header, Latitude, Column, NoValue}
 use Rattle.terms.specs.declared.write_mode.WriteMode.{WriteMode}
 use Rattle.terms.specs.declared.write_mode.WriteMode.the-variants.{Ordinary, Quick}
 use Rattle.memory.specs.declared.layout.Field.the-variants.{RedirectionProtection}
@@ -215,6 +215,10 @@ six-stops n Sheet h e = absurd (omega arith)
 six-stops n NoPresence h e = absurd (omega arith)
 six-stops n Crc8 h e = absurd (omega arith)
 six-stops n Family h e = absurd (omega arith)
+six-stops n Header h e = absurd (omega arith)
+six-stops n Latitude h e = absurd (omega arith)
+six-stops n Column h e = absurd (omega arith)
+six-stops n NoValue h e = absurd (omega arith)
 
 -- what is told is not 6
 abbrev NotCrc : Told Next → Type 0

@@ -2,6 +2,7 @@ pub mod Answers
 pub mod Calls
 pub mod Chip
 pub mod Image
+pub mod Lookup
 pub mod Number
 pub mod Page
 pub mod Publisher

@@ -87,6 +87,10 @@ fn put_value(refusal: Refusal, answer: &mut [u8])
         Refusal::NoPresence => {}
         Refusal::Crc8 => {}
         Refusal::Family => {}
+        Refusal::Header => {}
+        Refusal::Latitude => {}
+        Refusal::Column => {}
+        Refusal::NoValue => {}
     }
 }
 

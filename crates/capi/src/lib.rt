@@ -7,6 +7,7 @@ mod answer;
 mod calls;
 pub mod chip_entries;
 pub mod image_entries;
+pub mod lookup_entries;
 pub mod number_entries;
 pub mod page_entries;
 pub mod publisher_entries;

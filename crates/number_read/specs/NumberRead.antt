@@ -7,7 +7,7 @@ use lib.ListN.{set, getD, take, replicate}
 use Rattle.terms.specs.Bits.{bitAt, shiftIn}
 use Rattle.terms.specs.Told.{Told, refused, accepted, refusing, judge}
 use Rattle.terms.specs.declared.refusal.Refusal.{Refusal}
-use Rattle.terms.specs.declared.refusal.Refusal.the-variants.{ImageLength, StateRange, PageNumber, Loop, Outside, Crc16, ReadBack, NoFreePage, RedirectionProtected, BufferLength, Sheet, NoPresence, Crc8, Family}
+use Rattle.terms.specs.declared.refusal.Refusal.the-variants.{ImageLength, StateRange, PageNumber, Loop, Outside, Crc16, ReadBack, NoFreePage, RedirectionProtected, BufferLength, Sheet, NoPresence, Crc8, Family, Header, Latitude, Column, NoValue}
 use Rattle.bus.specs.declared.Event.the-variants.{Reset, Slot}
 use Rattle.crc.specs.Crc.{crc8Of}
 use Rattle.master.specs.Next.{Next, send, tells}
@@ -110,6 +110,10 @@ isStop Sheet = false
 isStop NoPresence = true
 isStop Crc8 = true
 isStop Family = true
+isStop Header = false
+isStop Latitude = false
+isStop Column = false
+isStop NoValue = false
 
 -- the bytes are a number that the read accepts
 unfoldable pub isNumber : List ℕ → Bool

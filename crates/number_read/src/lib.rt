@@ -224,6 +224,10 @@ fn is_stop(refusal: Refusal) -> bool
         Refusal::NoPresence => true,
         Refusal::Crc8 => true,
         Refusal::Family => true,
+        Refusal::Header => false,
+        Refusal::Latitude => false,
+        Refusal::Column => false,
+        Refusal::NoValue => false,
     }
 }
 

@@ -8,7 +8,7 @@ use lib.ListN.{length, getD, drop, replicate}
 use Rattle.terms.specs.Refusal.{numberOf, valuesOf}
 use Rattle.terms.specs.Told.{Told, accepted, judge, Done, done, unlessRefused}
 use Rattle.terms.specs.declared.refusal.Refusal.{Refusal}
-use Rattle.terms.specs.declared.refusal.Refusal.the-variants.{ImageLength, StateRange, PageNumber, Loop, Outside, Crc16, ReadBack, NoFreePage, RedirectionProtected, BufferLength, Sheet, NoPresence, Crc8, Family}
+use Rattle.terms.specs.declared.refusal.Refusal.the-variants.{ImageLength, StateRange, PageNumber, Loop, Outside, Crc16, ReadBack, NoFreePage, RedirectionProtected, BufferLength, Sheet, NoPresence, Crc8, Family, Header, Latitude, Column, NoValue}
 use Rattle.terms.specs.declared.write_mode.WriteMode.{WriteMode}
 use Rattle.terms.specs.declared.write_mode.WriteMode.the-variants.{Ordinary, Quick}
 use Rattle.memory.specs.Page.{copied}
@@ -131,7 +131,11 @@ refusalOf number value =
     (cond (eqb number 13) NoPresence
     (cond (eqb number 14) Crc8
     (cond (eqb number 15) Family
-    ImageLength))))))))))))
+    (cond (eqb number 16) Header
+    (cond (eqb number 17) Latitude
+    (cond (eqb number 18) Column
+    (cond (eqb number 19) NoValue
+    ImageLength))))))))))))))))
 
 -- the front of a state that a refusal stopped
 unfoldable pub stopFront : ℕ → Refusal → Front

@@ -238,6 +238,10 @@ pub fn value_of(refusal: Refusal) -> u8
         Refusal::NoPresence => 0,
         Refusal::Crc8 => 0,
         Refusal::Family => 0,
+        Refusal::Header => 0,
+        Refusal::Latitude => 0,
+        Refusal::Column => 0,
+        Refusal::NoValue => 0,
     }
 }
 
@@ -259,6 +263,10 @@ pub fn refusal_of(number: u8, value: u8) -> Refusal
         13 => Refusal::NoPresence,
         14 => Refusal::Crc8,
         15 => Refusal::Family,
+        16 => Refusal::Header,
+        17 => Refusal::Latitude,
+        18 => Refusal::Column,
+        19 => Refusal::NoValue,
         _ => Refusal::ImageLength,
     }
 }

@@ -378,6 +378,10 @@ fn is_stop(last: Page, refusal: Refusal) -> bool
         Refusal::NoPresence => true,
         Refusal::Crc8 => false,
         Refusal::Family => false,
+        Refusal::Header => false,
+        Refusal::Latitude => false,
+        Refusal::Column => false,
+        Refusal::NoValue => false,
     }
 }
 

@@ -347,6 +347,10 @@ fn is_stop(mode: WriteMode, last: Page, refusal: Refusal) -> bool
         Refusal::NoPresence => true,
         Refusal::Crc8 => false,
         Refusal::Family => false,
+        Refusal::Header => false,
+        Refusal::Latitude => false,
+        Refusal::Column => false,
+        Refusal::NoValue => false,
     }
 }
 

@@ -6,7 +6,7 @@ use mathlib.Core.List.{List}
 use lib.Dec.{eqb}
 use lib.ListN.{getD}
 use Rattle.terms.specs.declared.refusal.Refusal.{Refusal}
-use Rattle.terms.specs.declared.refusal.Refusal.the-variants.{ImageLength, StateRange, PageNumber, Loop, Outside, Crc16, ReadBack, NoFreePage, RedirectionProtected, BufferLength, Sheet, NoPresence, Crc8, Family}
+use Rattle.terms.specs.declared.refusal.Refusal.the-variants.{ImageLength, StateRange, PageNumber, Loop, Outside, Crc16, ReadBack, NoFreePage, RedirectionProtected, BufferLength, Sheet, NoPresence, Crc8, Family, Header, Latitude, Column, NoValue}
 use Rattle.terms.specs.Refusal.{numberOf, valuesOf}
 
 -- the refusal of a number, with its values
@@ -25,7 +25,11 @@ refusalOf k values =
     (cond (eqb k 12) Sheet
     (cond (eqb k 13) NoPresence
     (cond (eqb k 14) Crc8
-    Family))))))))))))
+    (cond (eqb k 15) Family
+    (cond (eqb k 16) Header
+    (cond (eqb k 17) Latitude
+    (cond (eqb k 18) Column
+    NoValue))))))))))))))))
 
 back : (r : Refusal) → refusalOf (numberOf r) (valuesOf r) ≡ r
 unfolding refusalOf
@@ -43,6 +47,10 @@ back Sheet = refl
 back NoPresence = refl
 back Crc8 = refl
 back Family = refl
+back Header = refl
+back Latitude = refl
+back Column = refl
+back NoValue = refl
 
 pub same-refusal : (r s : Refusal) → numberOf r ≡ numberOf s → valuesOf r ≡ valuesOf s → r ≡ s
 same-refusal r s e v = sym (back r) ∙ ap₂ refusalOf e v ∙ back s

@@ -1,8 +1,8 @@
--- Document 01's table of refusals: the number of each, and the values that it gives back. A state is given back beside it.
+-- Document 01's table of refusals, and document 02's after it (16 to 19, M-102): the number of each, and the values that it gives back. A state is given back beside it.
 use Prim.Native.Nat.{ℕ}
 use mathlib.Core.List.{List, [], _∷_}
 use Rattle.terms.specs.declared.refusal.Refusal.{Refusal}
-use Rattle.terms.specs.declared.refusal.Refusal.the-variants.{ImageLength, StateRange, PageNumber, Loop, Outside, Crc16, ReadBack, NoFreePage, RedirectionProtected, BufferLength, Sheet, NoPresence, Crc8, Family}
+use Rattle.terms.specs.declared.refusal.Refusal.the-variants.{ImageLength, StateRange, PageNumber, Loop, Outside, Crc16, ReadBack, NoFreePage, RedirectionProtected, BufferLength, Sheet, NoPresence, Crc8, Family, Header, Latitude, Column, NoValue}
 
 abbrev pub numberOf : Refusal → ℕ
 numberOf ImageLength = 1
@@ -19,6 +19,10 @@ numberOf Sheet = 12
 numberOf NoPresence = 13
 numberOf Crc8 = 14
 numberOf Family = 15
+numberOf Header = 16
+numberOf Latitude = 17
+numberOf Column = 18
+numberOf NoValue = 19
 
 abbrev pub valuesOf : Refusal → List ℕ
 valuesOf ImageLength = []
@@ -35,3 +39,7 @@ valuesOf Sheet = []
 valuesOf NoPresence = []
 valuesOf Crc8 = []
 valuesOf Family = []
+valuesOf Header = []
+valuesOf Latitude = []
+valuesOf Column = []
+valuesOf NoValue = []

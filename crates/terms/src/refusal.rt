@@ -2,7 +2,7 @@ use crate::address::Page;
 ghost use mathlib.Core.Path.{_≡_};
 ghost use Rattle.terms.specs.Refusal.{numberOf};
 
-// Document 01's refusals, in the order of their numbers, each with the values that it gives back. A state is given back beside it.
+// The refusals of documents 01 and 02, in the order of their numbers, each with the values that it gives back. A state is given back beside it.
 pub enum Refusal {
     ImageLength,
     StateRange,
@@ -18,6 +18,10 @@ pub enum Refusal {
     NoPresence,
     Crc8,
     Family,
+    Header,
+    Latitude,
+    Column,
+    NoValue,
 }
 
 // Whether an input is accepted, where nothing more is told.
@@ -45,5 +49,9 @@ pub fn number(refusal: Refusal) -> u8
         Refusal::NoPresence => 13,
         Refusal::Crc8 => 14,
         Refusal::Family => 15,
+        Refusal::Header => 16,
+        Refusal::Latitude => 17,
+        Refusal::Column => 18,
+        Refusal::NoValue => 19,
     }
 }

@@ -59,10 +59,30 @@ returns-14 : tie.Need-returns-14
 unfolding isStop
 returns-14 c = simp (c .enum-told14 .given .1)
 
+returns-15 : tie.Need-returns-15
+unfolding isStop
+returns-15 c = simp (c .enum-told15 .given .1)
+
+returns-16 : tie.Need-returns-16
+unfolding isStop
+returns-16 c = simp (c .enum-told16 .given .1)
+
+returns-17 : tie.Need-returns-17
+unfolding isStop
+returns-17 c = simp (c .enum-told17 .given .1)
+
+returns-18 : tie.Need-returns-18
+unfolding isStop
+returns-18 c = simp (c .enum-told18 .given .1)
+
 pub is-stop-spec : {M : Type 1} → statement M
 is-stop-spec =
     tie.close
     (tie.spec
+    (λ c. search needs)
+    (λ c. search needs)
+    (λ c. search needs)
+    (λ c. search needs)
     (λ c. search needs)
     (λ c. search needs)
     (λ c. search needs)
@@ -90,4 +110,8 @@ is-stop-spec =
     returns-11
     returns-12
     returns-13
-    returns-14)
+    returns-14
+    returns-15
+    returns-16
+    returns-17
+    returns-18)

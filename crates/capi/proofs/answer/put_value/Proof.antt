@@ -59,6 +59,22 @@ returns-14 : tie.Need-returns-14
 unfolding answered
 returns-14 c = simp (c .enum-told12 .given .1)
 
+returns-15 : tie.Need-returns-15
+unfolding answered
+returns-15 c = simp (c .enum-told13 .given .1)
+
+returns-16 : tie.Need-returns-16
+unfolding answered
+returns-16 c = simp (c .enum-told14 .given .1)
+
+returns-17 : tie.Need-returns-17
+unfolding answered
+returns-17 c = simp (c .enum-told15 .given .1)
+
+returns-18 : tie.Need-returns-18
+unfolding answered
+returns-18 c = simp (c .enum-told16 .given .1)
+
 pub put-value-spec : {M : Type 1} → statement M
 put-value-spec =
     tie.close
@@ -79,6 +95,10 @@ put-value-spec =
     (λ c. search needs)
     (λ c. search needs)
     (λ c. search needs)
+    (λ c. search needs)
+    (λ c. search needs)
+    (λ c. search needs)
+    (λ c. search needs)
     returns
     returns-2
     returns-3
@@ -94,4 +114,8 @@ put-value-spec =
     returns-11
     returns-12
     returns-13
-    returns-14)
+    returns-14
+    returns-15
+    returns-16
+    returns-17
+    returns-18)

@@ -1,0 +1,68 @@
+// Entries on the variation at a latitude and a column, and on the change from one value to another.
+ghost use mathlib.Core.Path.{_≡_};
+ghost use Rattle.tenths.specs.Tenths.{tenthsTold};
+ghost use Rattle.capi.specs.Answers.{codeIn, answered};
+ghost use Rattle.capi.specs.Lookup.{tenthsValues, variationValues, sheetVariationValues, changeValues};
+use crate::answer;
+use tenths::Tenths;
+
+// Tenths of a degree in sixteen bits, low byte first, or a refusal.
+fn tell_tenths(told: Tenths, answer: &mut [u8]) -> u32
+    ensures code { λ r. ⌜ r ≡ codeIn (tenthsValues (tenthsTold told)) ⌝ }
+    ensures answer { λ r. ⌜ now (answer .exit) ≡ answered (tenthsValues (tenthsTold told)) (now (answer .entry)) ⌝ }
+{
+    match told {
+        Tenths::Refused(r) => answer::refuse(r, answer),
+        Tenths::Told(v) => {
+            let bits = tenths::low_bits(v);
+            answer::tell_two((bits % 256) as u8, (bits / 256 % 256) as u8, answer);
+            0
+        }
+    }
+}
+
+// The variation at a latitude and a column. Refused: 10, 1, 4, 5, 16, 17, 18, 4, 5, 19.
+#[no_mangle]
+pub extern "C" fn ds2505_variation(
+    image: &[u8],
+    latitude: i32,
+    column: u32,
+    answer: &mut [u8],
+) -> u32
+    ensures code { λ r. ⌜ r ≡ codeIn (variationValues 64 (now (image .entry)) latitude column (now (answer .entry))) ⌝ }
+    ensures answer { λ r. ⌜ now (answer .exit) ≡ answered (variationValues 64 (now (image .entry)) latitude column (now (answer .entry))) (now (answer .entry)) ⌝ }
+{
+    if !answer::is_answer(answer) {
+        return 10;
+    }
+    tell_tenths(lookup::variation::at(image, latitude, column), answer)
+}
+
+// The same from a stored sheet. Refused: 10, 12, then as above.
+#[no_mangle]
+pub extern "C" fn ds2505_sheet_variation(
+    sheet: &[u8],
+    latitude: i32,
+    column: u32,
+    answer: &mut [u8],
+) -> u32
+    ensures code { λ r. ⌜ r ≡ codeIn (sheetVariationValues 64 (now (sheet .entry)) latitude column (now (answer .entry))) ⌝ }
+    ensures answer { λ r. ⌜ now (answer .exit) ≡ answered (sheetVariationValues 64 (now (sheet .entry)) latitude column (now (answer .entry))) (now (answer .entry)) ⌝ }
+{
+    if !answer::is_answer(answer) {
+        return 10;
+    }
+    tell_tenths(sheet_lookup::variation(sheet, latitude, column), answer)
+}
+
+// The change from an old value to a new one. Refused: 10, 19.
+#[no_mangle]
+pub extern "C" fn ds2505_change(old: i32, new: i32, answer: &mut [u8]) -> u32
+    ensures code { λ r. ⌜ r ≡ codeIn (changeValues old new (now (answer .entry))) ⌝ }
+    ensures answer { λ r. ⌜ now (answer .exit) ≡ answered (changeValues old new (now (answer .entry))) (now (answer .entry)) ⌝ }
+{
+    if !answer::is_answer(answer) {
+        return 10;
+    }
+    tell_tenths(tenths::change(old, new), answer)
+}
