@@ -1,8 +1,8 @@
 -- The header, which says which page holds the row of a latitude: the bytes of a page, over the page count n.
 use Prim.Native.Nat.{ℕ, zero, suc, _+_, _-_, _*_}
-use mathlib.Core.Bool.{Bool, true, cond, _&&_}
+use mathlib.Core.Bool.{Bool, cond, _&&_}
 use mathlib.Core.List.{List, []}
-use lib.Dec.{eqb, ltb, leb}
+use lib.Dec.{eqb, leb}
 use lib.ListN.{getD}
 use lib.IntN.{ℤ, pos, _+ℤ_}
 use lib.Signed.{ltZ, leZ}

@@ -9,7 +9,7 @@ use lib.Signed.{mag, ltZ, leZ, nonNeg}
 use mir.Syntax.{w32}
 use mir.Val.{SFits}
 use borrow.Author.Tests.{ltb-true, ltb-false, leb-true, lt-ltb, le-ltb, le-leb, lt-leb}
-use Rattle.tenths.specs.Tenths.{signedOf, lowBits, least, greatest, isValue}
+use Rattle.tenths.specs.Tenths.{signedOf, lowBits, isValue}
 
 -- a difference of two naturals, by which is less
 sub-bound : (a b : ℕ) (t : Bool) → ltb a b ≡ t → (k : ℕ) → (b ≤ suc (a + k)) → (a ≤ b + k) → mag (cond t (negsuc (b - suc a)) (pos (a - b))) ≤ k

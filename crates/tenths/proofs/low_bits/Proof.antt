@@ -2,9 +2,9 @@ use Prim.Native.Nat.{_%_}
 use mathlib.Core.Path.{_≡_, ap, _∙_}
 use native.Mathlib.Omega.{arith}
 use lib.IntN.{ℤ, pos, natAbs, _+ℤ_}
-use lib.Signed.{natAbs-le, nonNeg}
+use lib.Signed.{natAbs-le}
 use mir.Syntax.{w32, w64}
-use mir.Val.{SFits, toZ, ofZ}
+use mir.Val.{toZ, ofZ}
 use mir.ValLaws.{toZ-ofZ}
 use borrow.Author.Needs.{needs}
 use Rattle.tenths.specs.Tenths.{lowBits}

@@ -3,7 +3,7 @@ use mathlib.Core.Bool.{true}
 use lib.Dec.{eqb, leb}
 use borrow.Author.Tests.{not-true, not-false, lt-leb, le-leb}
 use borrow.Author.Needs.{needs}
-use Rattle.lookup.specs.Header.{rowsOf, columnsOf, heightOf, isBetween, fieldsRight}
+use Rattle.lookup.specs.Header.{rowsOf, columnsOf, isBetween, fieldsRight}
 use Rattle.lookup.proofs.header.are_fields_right.Statement.{statement}
 use Rattle.lookup.proofs.header.are_fields_right.Tie as tie
 

@@ -1,5 +1,4 @@
 use borrow.Author.Tests.{lt-leb, le-leb}
-use borrow.Author.Needs.{needs}
 use Rattle.lookup.specs.Header.{isBetween}
 use Rattle.lookup.proofs.header.is_between.Statement.{statement}
 use Rattle.lookup.proofs.header.is_between.Tie as tie
