@@ -154,3 +154,22 @@ fn crcs() {
         assert_eq!(crc8(crc8(0, first), rest), crc8(0, &bytes));
     }
 }
+
+/// A bit at a time: the register shifts right, and where the bit that leaves
+/// it differs from the bit that comes, the polynomial is xored into it.
+fn eight_bit_steps(mut register: u16, byte: u8) -> u16 {
+    for place in 0..8 {
+        let differs = (register ^ u16::from(byte >> place)) & 1;
+        register = (register >> 1) ^ (0xA001 * differs);
+    }
+    register
+}
+
+#[test]
+fn one_byte_on_every_register() {
+    for register in 0..=0xFFFF {
+        for byte in 0..=255 {
+            assert_eq!(crc16(register, &[byte]), eight_bit_steps(register, byte));
+        }
+    }
+}

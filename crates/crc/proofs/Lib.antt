@@ -2,3 +2,4 @@ pub mod Distinct
 mod Linear
 pub mod Runs
 mod Steps
+pub mod Table

@@ -18,7 +18,7 @@ use Rattle.crc.specs.Crc.{crcBit, crcBits}
 halves : {n m : ℕ} → n / 2 ≡ m / 2 → n % 2 ≡ m % 2 → n ≡ m
 halves p q = omega arith
 
-xor-assoc : (a b c : ℕ) → bitXor (bitXor a b) c ≡ bitXor a (bitXor b c)
+pub xor-assoc : (a b c : ℕ) → bitXor (bitXor a b) c ≡ bitXor a (bitXor b c)
 xor-assoc a =
     bin-ind (λ (n : ℕ). (b c : ℕ) → bitXor (bitXor n b) c ≡ bitXor n (bitXor b c)) (λ b c. refl)
     (λ n ih b c. halves

@@ -27,9 +27,6 @@ crcBytes p reg (b ∷ bs) = crcBytes p (crcByte p reg b) bs
 
 -- ---- CRC-16
 
-abbrev pub crc16Bit : ℕ → Bool → ℕ
-crc16Bit = crcBit crc16Polynomial
-
 abbrev pub crc16Byte : ℕ → ℕ → ℕ
 crc16Byte = crcByte crc16Polynomial
 

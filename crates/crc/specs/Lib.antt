@@ -1,3 +1,4 @@
 pub mod Polynomial
 pub mod Crc
+pub mod Table
 pub mod Tray

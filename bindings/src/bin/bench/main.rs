@@ -7,6 +7,7 @@
 mod crc;
 mod plain;
 mod session;
+mod tray;
 
 use std::hint::black_box;
 use std::time::{Duration, Instant};
@@ -15,7 +16,7 @@ use ds2505::{
     calls, Published, WriteMode, ANSWER_SIZE, CHIP_STATE_SIZE, NO_EVENT, PAGE_SIZE, PAGE_STATE_SIZE,
 };
 use ds2505_model::chip::Chip;
-use ds2505_model::page_read::read_page;
+use ds2505_model::page_read::{read_page, PageReading};
 use ds2505_model::publisher::{update, Outcome, Run};
 use ds2505_model::random::{chain_image, used_image, Generator};
 use ds2505_model::walk::Final;
@@ -143,30 +144,83 @@ struct Joined {
     replies: Vec<u8>,
 }
 
-fn join(page: u8, image: &mut [u8], joined: &mut Joined) {
-    let mut chip = [0; CHIP_STATE_SIZE];
-    let mut reader = [0; PAGE_STATE_SIZE];
-    let mut reply = [1];
-    joined.events.clear();
-    joined.replies.clear();
-    assert_eq!(calls::chip_power_up(&NUMBER, &mut chip), 0);
-    assert_eq!(calls::page_start(page, &mut reader), 0);
-    loop {
-        let code = calls::page_call(
-            &mut reader,
-            reply[0],
-            &mut joined.buffer,
-            &mut joined.answer,
-        );
-        assert_eq!(code, 0);
-        joined.replies.push(reply[0]);
-        if joined.answer[0] == NO_EVENT {
-            return;
+impl Joined {
+    fn new() -> Joined {
+        Joined {
+            answer: [0; ANSWER_SIZE],
+            buffer: [0; PAGE_SIZE],
+            events: Vec::with_capacity(4096),
+            replies: Vec::with_capacity(4096),
         }
-        let event = [joined.answer[0]];
-        joined.events.push(event[0]);
-        let code = calls::chip_events(&mut chip, &event, image, &mut reply);
-        assert_eq!(code, 0);
+    }
+
+    /// Reads the page, event by event.
+    fn read(&mut self, page: u8, image: &mut [u8]) {
+        let mut chip = [0; CHIP_STATE_SIZE];
+        let mut reader = [0; PAGE_STATE_SIZE];
+        let mut reply = [1];
+        self.events.clear();
+        self.replies.clear();
+        assert_eq!(calls::chip_power_up(&NUMBER, &mut chip), 0);
+        assert_eq!(calls::page_start(page, &mut reader), 0);
+        loop {
+            let code = calls::page_call(&mut reader, reply[0], &mut self.buffer, &mut self.answer);
+            assert_eq!(code, 0);
+            self.replies.push(reply[0]);
+            if self.answer[0] == NO_EVENT {
+                return;
+            }
+            let event = [self.answer[0]];
+            self.events.push(event[0]);
+            let code = calls::chip_events(&mut chip, &event, image, &mut reply);
+            assert_eq!(code, 0);
+        }
+    }
+
+    /// The second model must have read the same.
+    fn check(&self, reading: &PageReading) {
+        let Ok(end) = reading.result else {
+            panic!("{:?}", reading.result);
+        };
+        assert_eq!(self.answer[..3], [NO_EVENT, end.page, end.hops]);
+        assert_eq!(self.buffer, reading.buffer);
+        assert_eq!(self.events.len(), reading.events);
+    }
+
+    /// The same events and replies as two runs, each given what the other told
+    /// before: whether both tell it again.
+    fn runs(&self, page: u8, image: &mut [u8], told: &mut Told) -> bool {
+        let drawn = &mut told.replies[..self.events.len()];
+        let sent = &mut told.events[..self.replies.len()];
+        let chip = calls::chip_run(&NUMBER, &self.events, image, drawn);
+        let master = calls::page_run(
+            page,
+            &self.replies,
+            sent,
+            &mut told.buffer,
+            &mut told.answer,
+        );
+        assert_eq!((chip, master), (0, 0));
+        drawn[..] == self.replies[1..] && sent[..self.events.len()] == self.events[..]
+    }
+}
+
+/// Room for what two runs tell.
+struct Told {
+    replies: Vec<u8>,
+    events: Vec<u8>,
+    buffer: [u8; PAGE_SIZE],
+    answer: [u8; ANSWER_SIZE],
+}
+
+impl Told {
+    fn new() -> Told {
+        Told {
+            replies: vec![0; 4096],
+            events: vec![0; 4096],
+            buffer: [0; PAGE_SIZE],
+            answer: [0; ANSWER_SIZE],
+        }
     }
 }
 
@@ -178,34 +232,17 @@ fn page_reads() {
         *byte = (place as u8).wrapping_mul(37) ^ 0x5A;
     }
     let mut chip = Chip::power_up(NUMBER, image.clone()).unwrap();
-    let mut joined = Joined {
-        answer: [0; ANSWER_SIZE],
-        buffer: [0; PAGE_SIZE],
-        events: Vec::with_capacity(4096),
-        replies: Vec::with_capacity(4096),
-    };
-    join(5, &mut image, &mut joined);
+    let mut joined = Joined::new();
+    joined.read(5, &mut image);
     let reading = read_page(&mut chip, 5).unwrap();
     assert_eq!(reading.result, Ok(Final { page: 50, hops: 8 }));
-    assert_eq!(joined.answer[..3], [NO_EVENT, 50, 8]);
-    assert_eq!(joined.buffer, reading.buffer);
-    assert_eq!(joined.events.len(), reading.events);
+    joined.check(&reading);
 
-    // The same events and replies as two runs, each given what the other told.
-    let events = joined.events.clone();
-    let replies = joined.replies.clone();
-    let mut drawn = vec![0; events.len()];
-    let mut told = vec![0; replies.len()];
-    let mut buffer = [0; PAGE_SIZE];
-    let mut answer = [0; ANSWER_SIZE];
+    let mut recorded = Joined::new();
+    recorded.read(5, &mut image);
+    let mut told = Told::new();
     let mut runs_image = image.clone();
-    let mut runs = || {
-        let chip = calls::chip_run(&NUMBER, &events, &mut runs_image, &mut drawn);
-        let master = calls::page_run(5, &replies, &mut told, &mut buffer, &mut answer);
-        assert_eq!((chip, master), (0, 0));
-        (drawn == replies[1..], told[..events.len()] == events[..])
-    };
-    assert_eq!(runs(), (true, true));
+    assert!(recorded.runs(5, &mut runs_image, &mut told));
 
     compare(
         &format!(
@@ -217,14 +254,74 @@ fn page_reads() {
         6000,
         vec![
             timed("proved: ds2505_page_call, ds2505_chip_events", || {
-                join(black_box(5), &mut image, &mut joined);
+                joined.read(black_box(5), &mut image);
                 black_box(&joined.buffer);
             }),
             timed("second model: reader and chip", || {
                 black_box(read_page(&mut chip, black_box(5)).unwrap());
             }),
             timed("proved, as runs: ds2505_page_run, _chip_run", || {
-                black_box(runs());
+                black_box(recorded.runs(black_box(5), &mut runs_image, &mut told));
+            }),
+        ],
+    );
+}
+
+/// (f) Every page of every plug of a tray.
+fn trays() {
+    let images = tray::images();
+    let mut chips: Vec<Chip> = images
+        .iter()
+        .map(|image| Chip::power_up(NUMBER, image.clone()).unwrap())
+        .collect();
+    let mut told = Told::new();
+    let mut recorded = Vec::new();
+    let mut events = 0;
+    for (image, chip) in images.iter().zip(&mut chips) {
+        let mut image = image.clone();
+        for page in 0..64 {
+            let mut joined = Joined::new();
+            joined.read(page, &mut image);
+            joined.check(&read_page(chip, page).unwrap());
+            assert!(joined.runs(page, &mut image, &mut told));
+            events += joined.events.len();
+            recorded.push(joined);
+        }
+    }
+
+    let mut joined = Joined::new();
+    let mut joined_images = images.clone();
+    let mut runs_images = images;
+    compare(
+        &format!(
+            "(f) a tray of {} plugs, every page read: {events} events",
+            tray::PLUGS
+        ),
+        events,
+        "events",
+        20,
+        vec![
+            timed("proved, as runs: ds2505_page_run, _chip_run", || {
+                for (image, reads) in runs_images.iter_mut().zip(recorded.chunks(64)) {
+                    for (page, read) in (0..64).zip(reads) {
+                        black_box(read.runs(page, image, &mut told));
+                    }
+                }
+            }),
+            timed("proved: ds2505_page_call, ds2505_chip_events", || {
+                for image in &mut joined_images {
+                    for page in 0..64 {
+                        joined.read(page, image);
+                        black_box(&joined.buffer);
+                    }
+                }
+            }),
+            timed("second model: reader and chip", || {
+                for chip in &mut chips {
+                    for page in 0..64 {
+                        black_box(read_page(chip, page).unwrap());
+                    }
+                }
             }),
         ],
     );
@@ -368,4 +465,5 @@ fn main() {
     updates();
     crcs();
     quick_updates();
+    trays();
 }

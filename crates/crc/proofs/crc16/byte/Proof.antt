@@ -1,32 +1,21 @@
--- `crc::crc16::byte` meets its contract: what is left of the byte goes into the register as the whole byte does at the start.
-use mathlib.Core.Path.{_≡_, refl, _∙_}
+-- `crc::crc16::byte` meets its contract, by the law of the nibbles' entries.
+use mathlib.Core.Path.{ap₂, _∙_}
+use mathlib.Core.List.{List}
+use Prim.Native.Nat.{ℕ}
 use borrow.Author.Needs.{needs}
-use Rattle.terms.specs.Bits.{bitsOf}
 use Rattle.crc.specs.Polynomial.{crc16Polynomial}
-use Rattle.crc.specs.Crc.{crcBits, crcByte, crc16Byte}
-use Rattle.crc.proofs.Steps.{turn, done}
+use Rattle.crc.specs.Table.{stepByNibbles}
+use Rattle.crc.proofs.Table.{table-laws}
 use Rattle.crc.proofs.crc16.byte.Statement.{statement}
 use Rattle.crc.proofs.crc16.byte.Tie as tie
 
-abbrev Inv-loop : tie.InvT-loop
-Inv-loop reg byte r₀ b₀ left₀ r b left = crcBits crc16Polynomial r (bitsOf left b) ≡ crc16Byte reg byte
-
-abbrev μ-loop : tie.MeasureT-loop
-μ-loop reg byte r₀ b₀ left₀ r b left = left
-
-loop-holds : tie.Need-loop-holds Inv-loop μ-loop
-unfolding crcByte
-loop-holds c = refl
-
-loop-again : tie.Need-loop-again Inv-loop μ-loop
-loop-again c =
-    turn crc16Polynomial (c .before .before .loop .r) (c .before .before .loop .b) (c .before .before .loop .left) (search needs) (c .bit .ensures)
-    ∙ c .before .before .loop .inv
-
-returns : tie.Need-returns Inv-loop μ-loop
-returns c = done crc16Polynomial (c .before .loop .r) (c .before .loop .b) (c .before .loop .left) (search needs) ∙ c .before .loop .inv
+returns : tie.Need-returns
+returns c =
+    let at = c .before .before .before in
+    let args = at .before .before .args in
+    c .step-by-nibbles .ensures
+    ∙ ap₂ (λ (l h : List ℕ). stepByNibbles l h (args .reg) (args .byte)) (at .before .low-nibbles .ensures) (at .high-nibbles .ensures)
+    ∙ table-laws crc16Polynomial .nibbles (args .reg) (args .byte)
 
 pub byte-spec : {M : Type 1} → statement M
-byte-spec =
-    tie.close
-    (tie.spec Inv-loop μ-loop loop-holds (λ c κs. search needs) (λ c. search needs) (λ c. search needs) loop-again returns)
+byte-spec = tie.close (tie.spec (λ c κs. search needs) (λ c κs. search needs) (λ c κs. search needs) returns)

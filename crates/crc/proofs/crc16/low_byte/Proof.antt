@@ -1,0 +1,14 @@
+-- `crc::crc16::low_byte` meets its contract: the mask FFh is the remainder by 256.
+use native.Mathlib.Omega.{arith}
+use lib.Bits.{and-mask, mask-lt}
+use Rattle.crc.proofs.crc16.low_byte.Statement.{statement}
+use Rattle.crc.proofs.crc16.low_byte.Tie as tie
+
+cast-result : tie.Need-cast-result
+cast-result c = omega (arith, mask-lt (c .args .x) 8)
+
+returns : tie.Need-returns
+returns c = and-mask (c .args .x) 8
+
+pub low-byte-spec : {M : Type 1} → statement M
+low-byte-spec = tie.close (tie.spec cast-result returns)
