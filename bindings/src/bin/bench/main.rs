@@ -279,7 +279,7 @@ fn trays() {
     let mut events = 0;
     for (image, chip) in images.iter().zip(&mut chips) {
         let mut image = image.clone();
-        for page in 0..64 {
+        for page in 0..tray::PAGES {
             let mut joined = Joined::new();
             joined.read(page, &mut image);
             joined.check(&read_page(chip, page).unwrap());
@@ -302,15 +302,18 @@ fn trays() {
         20,
         vec![
             timed("proved, as runs: ds2505_page_run, _chip_run", || {
-                for (image, reads) in runs_images.iter_mut().zip(recorded.chunks(64)) {
-                    for (page, read) in (0..64).zip(reads) {
+                for (image, reads) in runs_images
+                    .iter_mut()
+                    .zip(recorded.chunks(tray::PAGES.into()))
+                {
+                    for (page, read) in (0..tray::PAGES).zip(reads) {
                         black_box(read.runs(page, image, &mut told));
                     }
                 }
             }),
             timed("proved: ds2505_page_call, ds2505_chip_events", || {
                 for image in &mut joined_images {
-                    for page in 0..64 {
+                    for page in 0..tray::PAGES {
                         joined.read(page, image);
                         black_box(&joined.buffer);
                     }
@@ -318,7 +321,7 @@ fn trays() {
             }),
             timed("second model: reader and chip", || {
                 for chip in &mut chips {
-                    for page in 0..64 {
+                    for page in 0..tray::PAGES {
                         black_box(read_page(chip, page).unwrap());
                     }
                 }

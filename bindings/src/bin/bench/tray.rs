@@ -1,9 +1,12 @@
 //! A tray of plugs to read.
 
-use ds2505_model::memory::{blank_image, DATA_LENGTH, REDIRECTION, USED_BITMAP};
+use ds2505_model::memory::{blank_image, DATA_LENGTH, PAGE_COUNT, REDIRECTION, USED_BITMAP};
 use ds2505_model::random::Generator;
 
 pub const PLUGS: usize = 100;
+
+/// How many pages a plug has.
+pub const PAGES: u8 = PAGE_COUNT as u8;
 
 /// Page `old` is superseded by page `new`.
 fn supersede(image: &mut [u8], old: usize, new: usize) {
