@@ -10,6 +10,7 @@ use bus::Event;
 use memory::image;
 use memory::page;
 use terms::refusal;
+use terms::refusal::Given;
 use terms::refusal::Judged;
 use terms::refusal::Refusal;
 
@@ -72,25 +73,9 @@ pub fn refuse(refusal: Refusal, answer: &mut [u8]) -> u32
 fn put_value(refusal: Refusal, answer: &mut [u8])
     ensures { λ r. ⌜ now (answer .exit) ≡ answered (refusing refusal) (now (answer .entry)) ⌝ }
 {
-    match refusal {
-        Refusal::ImageLength => {}
-        Refusal::StateRange => {}
-        Refusal::PageNumber => {}
-        Refusal::Loop => {}
-        Refusal::Outside(x) => tell_one(x, answer),
-        Refusal::Crc16 => {}
-        Refusal::ReadBack => {}
-        Refusal::NoFreePage => {}
-        Refusal::RedirectionProtected(l) => tell_one(l.0, answer),
-        Refusal::BufferLength => {}
-        Refusal::Sheet => {}
-        Refusal::NoPresence => {}
-        Refusal::Crc8 => {}
-        Refusal::Family => {}
-        Refusal::Header => {}
-        Refusal::Latitude => {}
-        Refusal::Column => {}
-        Refusal::NoValue => {}
+    match refusal::given_back(refusal) {
+        Given::Nothing => {}
+        Given::One(v) => tell_one(v, answer),
     }
 }
 

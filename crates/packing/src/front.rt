@@ -9,6 +9,7 @@ use memory::image;
 use memory::page;
 use terms::address::Page;
 use terms::refusal;
+use terms::refusal::Given;
 use terms::refusal::Judged;
 use terms::refusal::Refusal;
 use terms::write_mode::WriteMode;
@@ -223,25 +224,9 @@ pub fn mode_of(number: u16) -> WriteMode
 pub fn value_of(refusal: Refusal) -> u8
     ensures { λ r. ⌜ r ≡ valueOf refusal ⌝ }
 {
-    match refusal {
-        Refusal::ImageLength => 0,
-        Refusal::StateRange => 0,
-        Refusal::PageNumber => 0,
-        Refusal::Loop => 0,
-        Refusal::Outside(x) => x,
-        Refusal::Crc16 => 0,
-        Refusal::ReadBack => 0,
-        Refusal::NoFreePage => 0,
-        Refusal::RedirectionProtected(p) => p.0,
-        Refusal::BufferLength => 0,
-        Refusal::Sheet => 0,
-        Refusal::NoPresence => 0,
-        Refusal::Crc8 => 0,
-        Refusal::Family => 0,
-        Refusal::Header => 0,
-        Refusal::Latitude => 0,
-        Refusal::Column => 0,
-        Refusal::NoValue => 0,
+    match refusal::given_back(refusal) {
+        Given::Nothing => 0,
+        Given::One(v) => v,
     }
 }
 

@@ -1,6 +1,8 @@
 -- Document 01's table of refusals, and document 02's after it (16 to 19, M-102): the number of each, and the values that it gives back. A state is given back beside it.
 use Prim.Native.Nat.{ℕ}
 use mathlib.Core.List.{List, [], _∷_}
+use Rattle.terms.specs.declared.refusal.Given.{Given}
+use Rattle.terms.specs.declared.refusal.Given.the-variants.{Nothing, One}
 use Rattle.terms.specs.declared.refusal.Refusal.{Refusal}
 use Rattle.terms.specs.declared.refusal.Refusal.the-variants.{ImageLength, StateRange, PageNumber, Loop, Outside, Crc16, ReadBack, NoFreePage, RedirectionProtected, BufferLength, Sheet, NoPresence, Crc8, Family, Header, Latitude, Column, NoValue}
 
@@ -43,3 +45,8 @@ valuesOf Header = []
 valuesOf Latitude = []
 valuesOf Column = []
 valuesOf NoValue = []
+
+-- what the code's enum of given values tells
+abbrev pub givenValues : Given → List ℕ
+givenValues Nothing = []
+givenValues (One v) = v ∷ []

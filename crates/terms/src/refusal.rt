@@ -1,6 +1,6 @@
 use crate::address::Page;
 ghost use mathlib.Core.Path.{_≡_};
-ghost use Rattle.terms.specs.Refusal.{numberOf};
+ghost use Rattle.terms.specs.Refusal.{numberOf, valuesOf, givenValues};
 
 // The refusals of documents 01 and 02, in the order of their numbers, each with the values that it gives back. A state is given back beside it.
 pub enum Refusal {
@@ -22,6 +22,12 @@ pub enum Refusal {
     Latitude,
     Column,
     NoValue,
+}
+
+// What a refusal gives back besides a state.
+pub enum Given {
+    Nothing,
+    One(u8),
 }
 
 // Whether an input is accepted, where nothing more is told.
@@ -53,5 +59,31 @@ pub fn number(refusal: Refusal) -> u8
         Refusal::Latitude => 17,
         Refusal::Column => 18,
         Refusal::NoValue => 19,
+    }
+}
+
+// What a refusal gives back.
+pub fn given_back(refusal: Refusal) -> Given
+    ensures { λ r. ⌜ givenValues r ≡ valuesOf refusal ⌝ }
+{
+    match refusal {
+        Refusal::ImageLength => Given::Nothing,
+        Refusal::StateRange => Given::Nothing,
+        Refusal::PageNumber => Given::Nothing,
+        Refusal::Loop => Given::Nothing,
+        Refusal::Outside(x) => Given::One(x),
+        Refusal::Crc16 => Given::Nothing,
+        Refusal::ReadBack => Given::Nothing,
+        Refusal::NoFreePage => Given::Nothing,
+        Refusal::RedirectionProtected(l) => Given::One(l.0),
+        Refusal::BufferLength => Given::Nothing,
+        Refusal::Sheet => Given::Nothing,
+        Refusal::NoPresence => Given::Nothing,
+        Refusal::Crc8 => Given::Nothing,
+        Refusal::Family => Given::Nothing,
+        Refusal::Header => Given::Nothing,
+        Refusal::Latitude => Given::Nothing,
+        Refusal::Column => Given::Nothing,
+        Refusal::NoValue => Given::Nothing,
     }
 }

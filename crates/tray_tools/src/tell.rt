@@ -5,6 +5,7 @@ use chip::free::Counted;
 use chip::free::FreePage;
 use chip::walk::Walked;
 use publisher::StartAnswer;
+use terms::refusal::Given;
 use terms::refusal::Judged;
 use terms::refusal::Refusal;
 use terms::verdict::Verdict;
@@ -58,10 +59,9 @@ pub fn event(d: &mut u64, e: Event) {
 }
 
 fn given_back(d: &mut u64, r: Refusal) {
-    match r {
-        Refusal::Outside(x) => byte(d, x),
-        Refusal::RedirectionProtected(l) => byte(d, l.0),
-        _ => {}
+    match terms::refusal::given_back(r) {
+        Given::Nothing => {}
+        Given::One(v) => byte(d, v),
     }
 }
 
