@@ -21,8 +21,8 @@
  * names one draws the code that is listed for it.
  *
  * A refusal leaves every buffer as it was, with these exceptions:
- *   - 5 and 9 put 0xFF and their value into the answer, where the function has
- *     one;
+ *   - 5, 9 and 20 put 0xFF and their value into the answer, where the function
+ *     has one;
  *   - 4, 5, 6, 7, 13, 14 and 15 told by a master's call stop the master: its
  *     state is then the stopped one, which tells the same again when called
  *     again;
@@ -142,6 +142,9 @@ extern "C" {
 #define DS2505_REFUSED_COLUMN 18
 /* a value is 7FFFh, which means that there is none, or isn't -1800 to 1799 */
 #define DS2505_REFUSED_NO_VALUE 19
+/* the final page's data are protected, so that it is not superseded; the value
+   is that page */
+#define DS2505_REFUSED_DATA_PROTECTED 20
 
 /* ---- CRCs --------------------------------------------------------------- */
 
@@ -221,13 +224,13 @@ uint32_t ds2505_free_page(const uint8_t *image, size_t image_size,
    as before while events is at most 1,212, and as new_page from
    1,213 on. With code 0, cut or not, the answer is 0xFF, L (the final page of
    the page given) and T (the page that takes the new bytes); with 5 it is 0xFF
-   and the number above 63, with 9 it is 0xFF and L.
+   and the number above 63, with 20 and with 9 it is 0xFF and L.
      image    2,368 bytes
      number   8 bytes, any values
      new_page 32 bytes
      answer   16 bytes
-   Codes: 10 for the answer, 10 for the number, 1, 10 for new_page, 3, 4, 5, 9,
-   8. */
+   Codes: 10 for the answer, 10 for the number, 1, 10 for new_page, 3, 4, 5, 20,
+   9, 8. */
 uint32_t ds2505_update(uint8_t *image, size_t image_size,
                        const uint8_t *number, size_t number_size,
                        const uint8_t *new_page, size_t new_page_size,
@@ -329,7 +332,8 @@ uint32_t ds2505_page_call(uint8_t *state, size_t state_size, uint8_t reply,
      events   as many bytes as replies
      answer   16 bytes
    Codes: 10 for the answer, 10 for the events, 2 for a byte that is no reply,
-   1, 10 for new_page, 3, 4, 5, 9, 8; then, told by the last call, 13, 6, 7. */
+   1, 10 for new_page, 3, 4, 5, 20, 9, 8; then, told by the last call, 13, 6,
+   7. */
 uint32_t ds2505_publisher_run(const uint8_t *image, size_t image_size,
                               const uint8_t *new_page, size_t new_page_size,
                               uint8_t page,
@@ -353,14 +357,14 @@ uint32_t ds2505_publisher_run_quick(const uint8_t *image, size_t image_size,
 
 /* The state of an update of a page before its first call. The image must be
    the chip's own; later calls are not given it. With code 0 the answer is 0xFF
-   alone; with 5 it is 0xFF and the number above 63, with 9 it is 0xFF and the
-   final page.
+   alone; with 5 it is 0xFF and the number above 63, with 20 and with 9 it is
+   0xFF and the final page.
      image    2,368 bytes
      new_page 32 bytes
      state    48 bytes
      answer   16 bytes
-   Codes: 10 for the answer, 10 for the state, 1, 10 for new_page, 3, 4, 5, 9,
-   8. */
+   Codes: 10 for the answer, 10 for the state, 1, 10 for new_page, 3, 4, 5, 20,
+   9, 8. */
 uint32_t ds2505_publisher_start(const uint8_t *image, size_t image_size,
                                 const uint8_t *new_page, size_t new_page_size,
                                 uint8_t page,

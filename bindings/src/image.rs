@@ -47,8 +47,8 @@ pub fn free_page(image: &[u8], other: u8) -> Result<u8, Refusal> {
 
 /// A whole update of a page, cut after so many events: L and T. It has 1,222
 /// events in the ordinary mode and 678 in the quick one; from 1,213 and from 669
-/// on the page reads as the new one. Refusals 1, 10, 3, 4, 5, 9 and 8, in this
-/// order.
+/// on the page reads as the new one. Refusals 1, 10, 3, 4, 5, 20, 9 and 8, in
+/// this order.
 pub fn update(
     image: &mut [u8],
     number: &[u8; NUMBER_SIZE],

@@ -85,7 +85,7 @@ pub enum WriteMode {
     Quick,
 }
 
-/// A refusal: its number, and the value that 5 and 9 give back.
+/// A refusal: its number, and the value that 5, 9 and 20 give back.
 #[derive(Clone, Copy, Debug, PartialEq, Eq)]
 pub struct Refusal {
     pub number: u32,
@@ -114,6 +114,7 @@ impl Refusal {
             17 => "the latitude is in no row",
             18 => "the rows have no such column",
             19 => "a value is 7FFFh or out of range",
+            20 => "the final page's data are protected",
             _ => "no refusal of this interface",
         }
     }
@@ -164,7 +165,7 @@ fn judged(code: u32) -> Result<(), Refusal> {
 
 /// The refusal of a code other than 0, with its value from the answer.
 fn refusal(code: u32, answer: &AnswerBuffer) -> Refusal {
-    let value = matches!(code, 5 | 9).then_some(answer[1]);
+    let value = matches!(code, 5 | 9 | 20).then_some(answer[1]);
     Refusal {
         number: code,
         value,

@@ -22,7 +22,7 @@ fn published(answer: &AnswerBuffer) -> Published {
 }
 
 /// An update of a page fed these replies. Refusals of the start (1, 10, 3, 4,
-/// 5, 9, 8) come as errors.
+/// 5, 20, 9, 8) come as errors.
 pub fn publisher_run(
     image: &[u8],
     new_page: &[u8],
@@ -61,7 +61,7 @@ pub struct Publisher {
 }
 
 impl Publisher {
-    /// Refusals 1, 10, 3, 4, 5, 9 and 8, in this order.
+    /// Refusals 1, 10, 3, 4, 5, 20, 9 and 8, in this order.
     pub fn start(
         image: &[u8],
         new_page: &[u8],

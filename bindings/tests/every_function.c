@@ -69,6 +69,13 @@ static int on_an_image(void)
     CHECK(ds2505_page(image, sizeof image, 1, page, sizeof page)
           == DS2505_ACCEPTED);
     CHECK(memcmp(page, bytes, sizeof page) == 0);
+    /* page 5 ends at page 1 now */
+    image[DS2505_STATUS_OFFSET + DS2505_DATA_PROTECTION] = 0xFD;
+    CHECK(ds2505_update(image, sizeof image, number, sizeof number, bytes,
+                        sizeof bytes, 5, 1222, answer, sizeof answer)
+          == DS2505_REFUSED_DATA_PROTECTED);
+    CHECK(answer[0] == DS2505_NO_EVENT && answer[1] == 1);
+    image[DS2505_STATUS_OFFSET + DS2505_DATA_PROTECTION] = 0xFF;
     image[DS2505_STATUS_OFFSET + DS2505_REDIRECTION + 7] = 255 - 200;
     CHECK(ds2505_walk(image, sizeof image, 7, answer, sizeof answer)
           == DS2505_REFUSED_OUTSIDE);

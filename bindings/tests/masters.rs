@@ -9,13 +9,16 @@ use common::{
     to_model, told, Damage, MODES,
 };
 use ds2505::{
-    number_run, page_run, publisher_run, Answer, Chip, Event, NumberRead, PageRead, Publisher,
-    Refusal, WriteMode,
+    number_run, page_run, publisher_run, Answer, Chip, Event, Final, NumberRead, PageRead,
+    Published, Publisher, Refusal, Verdict, WriteMode,
 };
 use ds2505_model as model;
 use ds2505_model::chip::Chip as ModelChip;
 use ds2505_model::crc::crc16_sent;
 use ds2505_model::random::Generator;
+
+/// Room for a count of each code.
+const CODES: usize = 21;
 
 /// How a call ended, in the terms that the tests count by.
 fn code<T>(told: &Result<Answer<T>, Refusal>) -> u32 {
@@ -85,7 +88,7 @@ fn last_of<T: Copy>(answers: &[Result<Answer<T>, Refusal>]) -> Result<Answer<T>,
 #[test]
 fn number_reads() {
     let mut g = Generator::new(300);
-    let mut seen = [0usize; 16];
+    let mut seen = [0usize; CODES];
     for _ in 0..6000 {
         let mut chip = ModelChip::power_up(some_number(&mut g), vec![0xFF; 2368]).unwrap();
         for event in session(&mut g, chip.number).into_iter().take(300) {
@@ -195,7 +198,7 @@ fn assert_same_page_read(
 #[test]
 fn page_reads() {
     let mut g = Generator::new(301);
-    let mut seen = [0usize; 16];
+    let mut seen = [0usize; CODES];
     for _ in 0..5000 {
         let mut chip = ModelChip::power_up(g.bytes(), some_image(&mut g)).unwrap();
         for event in session(&mut g, chip.number).into_iter().take(300) {
@@ -223,7 +226,7 @@ fn page_reads() {
 #[test]
 fn page_reads_on_lines_with_right_crcs() {
     let mut g = Generator::new(302);
-    let mut seen = [0usize; 16];
+    let mut seen = [0usize; CODES];
     let mut longest = 0;
     for _ in 0..2500 {
         let page = g.below(64) as u8;
@@ -262,7 +265,7 @@ fn publisher_codes(mode: WriteMode) -> &'static [usize] {
 fn publishers() {
     let mut g = Generator::new(303);
     for mode in MODES {
-        let mut seen = [0usize; 16];
+        let mut seen = [0usize; CODES];
         for _ in 0..3000 {
             let (image, page) = image_to_update(&mut g);
             let new: [u8; 32] = g.bytes();
@@ -335,7 +338,7 @@ fn every_single_wrong_reply_to_a_publisher() {
     let (image, page) = image_to_update(&mut g);
     let new: [u8; 32] = g.bytes();
     for mode in MODES {
-        let mut seen = [0usize; 16];
+        let mut seen = [0usize; CODES];
         for wrong in 0..all_events(mode) {
             let mut chip = ModelChip::power_up([0; 8], image.clone()).unwrap();
             let mut master = start_model(&image, &new, page, mode).unwrap();
@@ -416,7 +419,7 @@ fn a_byte_changed_on_its_way_to_the_chip() {
 #[test]
 fn starts() {
     let mut g = Generator::new(305);
-    let mut seen = [0usize; 16];
+    let mut seen = [0usize; CODES];
     for _ in 0..6000 {
         let mut image = some_image(&mut g);
         if g.once_in(20) {
@@ -455,8 +458,52 @@ fn starts() {
             PageRead::start(page).map(|_| ())
         );
     }
-    for number in [0, 1, 3, 4, 5, 8, 9, 10] {
+    for number in [0, 1, 3, 4, 5, 8, 9, 10, 20] {
         assert!(seen[number] > 60, "{seen:?}");
+    }
+}
+
+/// Page 5 leads to 9, and page 1 is free. Protected data of 9 close it, in every
+/// entry and either mode, and leave image and state; those of no other page do,
+/// the page asked for and the free page included.
+#[test]
+fn a_protected_band_is_closed() {
+    let new = [0x33; 32];
+    let mut open = ds2505_model::random::chain_image(&[5, 9]);
+    open[32 * 9..32 * 10].fill(0x11);
+    for mode in MODES {
+        for protected in (0..64).map(Some).chain([None]) {
+            let mut image = open.clone();
+            if let Some(page) = protected {
+                common::clear_bit(&mut image, 0x000, page);
+            }
+            let expected = match protected {
+                Some(9) => Err(Refusal {
+                    number: 20,
+                    value: Some(9),
+                }),
+                Some(1) => Ok(Published { l: 9, t: 2 }),
+                _ => Ok(Published { l: 9, t: 1 }),
+            };
+            let begun = expected.map(|_| ());
+            assert_eq!(Publisher::start(&image, &new, 5, mode).map(|_| ()), begun);
+            let run = publisher_run(&image, &new, 5, mode, &[true; 3]);
+            assert_eq!(run.map(|_| ()), begun);
+            let mut left = image.clone();
+            let whole = all_events(mode) as u32;
+            let updated = ds2505::update(&mut left, &[0; 8], &new, 5, mode, whole);
+            assert_eq!(updated, expected, "{mode:?}, {protected:?} protected");
+            match updated {
+                Ok(pages) => assert_eq!(
+                    ds2505::walk(&left, 5),
+                    Ok(Verdict::Final(Final {
+                        page: pages.t,
+                        hops: 2
+                    }))
+                ),
+                Err(_) => assert_eq!(left, image),
+            }
+        }
     }
 }
 

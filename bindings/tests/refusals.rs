@@ -411,7 +411,11 @@ fn make_outside(call: &mut Call, image: usize) {
     call.buffers[image][status(0x100 + 9)] = 255 - 200;
 }
 
-fn protect(call: &mut Call, image: usize) {
+fn protect_data(call: &mut Call, image: usize) {
+    clear_bit(&mut call.buffers[image], 0x000, 9);
+}
+
+fn protect_redirection(call: &mut Call, image: usize) {
     clear_bit(&mut call.buffers[image], 0x020, 9);
 }
 
@@ -421,8 +425,8 @@ fn use_all(call: &mut Call, image: usize) {
     }
 }
 
-/// 3, 4, 5, 9 and 8 of a call whose first buffer is the image.
-fn update_faults(answer: usize) -> [Fault; 5] {
+/// 3, 4, 5, 20, 9 and 8 of a call whose first buffer is the image.
+fn update_faults(answer: usize) -> [Fault; 6] {
     [
         fault(3, |call| call.small = 64),
         Fault {
@@ -436,7 +440,11 @@ fn update_faults(answer: usize) -> [Fault; 5] {
         },
         Fault {
             value: Some((answer, 9)),
-            ..fault(9, |call| protect(call, 0))
+            ..fault(20, |call| protect_data(call, 0))
+        },
+        Fault {
+            value: Some((answer, 9)),
+            ..fault(9, |call| protect_redirection(call, 0))
         },
         fault(8, |call| use_all(call, 0)),
     ]

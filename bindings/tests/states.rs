@@ -208,7 +208,7 @@ fn is_publisher_state(state: &[u8]) -> bool {
                     1 | 3 | 4 | 7 | 8 | 10 | 13 => f.value == 0,
                     6 => f.value == 0 && mode == WriteMode::Ordinary,
                     5 => f.value > 63,
-                    9 => f.value < 64,
+                    9 | 20 => f.value < 64,
                     _ => false,
                 }
         }
@@ -299,7 +299,7 @@ const PUBLISHER: Machine = Machine {
         let before = state.to_vec();
         let code = calls::publisher_call(state, u8::from(g.bit()), &mut answer);
         if code != 0 {
-            let from = if code == 5 || code == 9 { 2 } else { 0 };
+            let from = if [5, 9, 20].contains(&code) { 2 } else { 0 };
             assert_eq!(answer[from..], mark(16)[from..]);
         }
         if code == 2 {
@@ -309,7 +309,7 @@ const PUBLISHER: Machine = Machine {
     },
     // Those that a start gives come only from stopped states that no call
     // hands back.
-    codes: &[0, 1, 3, 4, 5, 6, 7, 8, 9, 10, 13],
+    codes: &[0, 1, 3, 4, 5, 6, 7, 8, 9, 10, 13, 20],
 };
 
 /// A state is accepted exactly where the tables say so, and then leads to
@@ -372,7 +372,7 @@ fn assert_made_up(g: &mut Generator, machine: &Machine, length: usize) {
                 16.. => g.byte(),
                 _ if !g.once_in(sparse) => 0,
                 1 => g.below(11) as u8,
-                3 => g.below(21) as u8,
+                3 => g.below(22) as u8,
                 8 => g.below(9) as u8,
                 9 if g.bit() => g.below(3) as u8,
                 _ if g.once_in(2) => g.below(18) as u8,
@@ -904,7 +904,7 @@ fn modes_of_publisher_states() {
                 ..place
             };
             let expected = match which {
-                1 | 3 | 4 | 7 | 8 | 9 | 10 | 13 => u32::from(which),
+                1 | 3 | 4 | 7 | 8 | 9 | 10 | 13 | 20 => u32::from(which),
                 6 if mode == WriteMode::Ordinary => 6,
                 _ => 2,
             };
@@ -915,6 +915,15 @@ fn modes_of_publisher_states() {
                 ..stop
             };
             assert_eq!(code(outside), if which > 63 { 5 } else { 2 });
+            for protection in [9, 20] {
+                let protected = Front {
+                    which: protection,
+                    value: which,
+                    ..stop
+                };
+                let expected = if which > 63 { 2 } else { protection };
+                assert_eq!(code(protected), u32::from(expected));
+            }
         }
         for other in (2..=u16::MAX).filter(|&other| other < 1000 || other % 37 == 0) {
             for front in [

@@ -10,8 +10,8 @@ use crate::chip::{Chip, Event, MemoryCommand, WriteMode};
 use crate::crc::{crc16_sent, crc16_sent_after_loading};
 use crate::free::free_page;
 use crate::memory::{
-    check_image, check_page, data_byte, redirection_byte, redirection_protected, status_byte,
-    DataAddress, Page, RedirectionByte, StatusAddress, PAGE_LENGTH, USED_BITMAP,
+    check_image, check_page, data_byte, data_protected, redirection_byte, redirection_protected,
+    status_byte, DataAddress, Page, RedirectionByte, StatusAddress, PAGE_LENGTH, USED_BITMAP,
 };
 use crate::refusal::{Answer, Reason, Refusal};
 use crate::walk::{walk_from, Verdict};
@@ -175,7 +175,7 @@ fn make_plan(image: &[u8], new_bytes: &[u8], l: Page, t: Page, mode: WriteMode) 
 }
 
 impl Publisher {
-    /// Refusals 1, 10, 3, 4, 5, 9 and 8, in this order, in either mode.
+    /// Refusals 1, 10, 3, 4, 5, 20, 9 and 8, in this order, in either mode.
     pub fn start(
         image: &[u8],
         new_bytes: &[u8],
@@ -194,6 +194,9 @@ impl Publisher {
             }
             Verdict::Final(reached) => check_page(reached.page)?,
         };
+        if data_protected(image, l) {
+            return Err(Refusal::without_state(Reason::DataProtected(l.number())));
+        }
         if redirection_protected(image, l) {
             return Err(Refusal::without_state(Reason::RedirectionProtected(
                 l.number(),

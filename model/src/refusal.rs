@@ -39,6 +39,8 @@ pub enum Reason {
     Column,
     /// The value is 7FFFh or out of its range.
     NoValue,
+    /// The data of L, given here, are protected.
+    DataProtected(u8),
 }
 
 /// What happened to a master's state in the refused call.
@@ -105,14 +107,15 @@ impl Refusal {
             Reason::Latitude => 17,
             Reason::Column => 18,
             Reason::NoValue => 19,
+            Reason::DataProtected(_) => 20,
         }
     }
 
-    /// The page number given back: with 5 the one outside, with 9 L.
+    /// The page number given back: with 5 the one outside, with 9 and 20 L.
     pub fn page_given_back(&self) -> Option<u8> {
         match self.reason {
             Reason::Outside(number) => Some(number),
-            Reason::RedirectionProtected(page) => Some(page),
+            Reason::RedirectionProtected(page) | Reason::DataProtected(page) => Some(page),
             _ => None,
         }
     }

@@ -358,6 +358,7 @@ fn order_of_refusals() {
     for page in 0..64 {
         clear_bit(&mut image, 0x040, page);
         clear_bit(&mut image, 0x020, page);
+        clear_bit(&mut image, 0x000, page);
     }
     image[redirection(1)] = 0xFE;
     image[redirection(2)] = 0x37;
@@ -368,12 +369,77 @@ fn order_of_refusals() {
     assert_eq!(number(&image, &good, 64), (3, None));
     assert_eq!(number(&image, &good, 1), (4, None));
     assert_eq!(number(&image, &good, 2), (5, Some(200)));
-    // It is the final page's protection that counts.
+    // It is the final page's protection that counts, that of its data first.
+    let only_3 = 0b0000_1000;
+    let only_4 = 0b0001_0000;
+    assert_eq!(number(&image, &good, 3), (20, Some(4)));
+    image[status(0x000)] = only_3;
+    assert_eq!(number(&image, &good, 3), (20, Some(4)));
+    image[status(0x020)] = only_4;
+    assert_eq!(number(&image, &good, 3), (20, Some(4)));
+    image[status(0x000)] = only_4;
+    image[status(0x020)] = 0;
     assert_eq!(number(&image, &good, 3), (9, Some(4)));
-    image[status(0x020)] = 0b0001_0000;
+    image[status(0x020)] = only_3;
+    assert_eq!(number(&image, &good, 3), (9, Some(4)));
+    image[status(0x020)] = only_4;
     assert_eq!(number(&image, &good, 3), (8, None));
-    image[status(0x020)] = 0b0000_1000;
-    assert_eq!(number(&image, &good, 3), (9, Some(4)));
+}
+
+/// Page 5 leads to 9, and page 1 is free. Protected data of the page that
+/// would be superseded close it; those of no other page do, the page asked for
+/// and the free page included.
+#[test]
+fn a_protected_band_is_closed() {
+    let mut open = blank_image();
+    open[redirection(5)] = 255 - 9;
+    for mode in MODES {
+        let pages = |image: &[u8]| {
+            let start = Publisher::start(image, &new_bytes(), 5, mode);
+            assert_eq!(
+                update(image, &new_bytes(), 5, mode, None).map(|run| run.outcome),
+                start
+                    .as_ref()
+                    .map(|publisher| Outcome::Published(publisher.pages()))
+                    .map_err(|refusal| *refusal)
+            );
+            start.map(|publisher| publisher.pages())
+        };
+        assert_eq!(pages(&open), Ok(Published { l: 9, t: 1 }));
+        for protected in 0..64 {
+            let mut image = open.clone();
+            clear_bit(&mut image, 0x000, protected);
+            match protected {
+                9 => {
+                    let refusal = pages(&image).unwrap_err();
+                    assert_eq!(refusal.number(), 20);
+                    assert_eq!(refusal.page_given_back(), Some(9));
+                    assert_eq!(refusal.state, StateBack::None);
+                }
+                1 => assert_eq!(pages(&image), Ok(Published { l: 9, t: 2 })),
+                _ => assert_eq!(pages(&image), Ok(Published { l: 9, t: 1 })),
+            }
+        }
+    }
+}
+
+/// An update of a page whose old data are protected goes on from the page that
+/// took its place; that page can be protected in its turn.
+#[test]
+fn closed_after_an_update() {
+    for mode in MODES {
+        let mut image = update(&blank_image(), &[0x22; 32], 5, mode, None)
+            .unwrap()
+            .image;
+        clear_bit(&mut image, 0x000, 5);
+        let run = update(&image, &[0x33; 32], 5, mode, None).unwrap();
+        assert_eq!(run.outcome, Outcome::Published(Published { l: 1, t: 2 }));
+        let mut image = run.image;
+        clear_bit(&mut image, 0x000, 2);
+        let refusal = update(&image, &[0x44; 32], 5, mode, None).unwrap_err();
+        assert_eq!((refusal.number(), refusal.page_given_back()), (20, Some(2)));
+        assert_eq!(reading(&image, 5).1, [0x33; 32]);
+    }
 }
 
 /// On any input the start refuses, or names the same pages, in either mode.
@@ -400,7 +466,7 @@ fn starts_are_the_same_in_either_mode() {
         *answers.entry(number).or_insert(0) += 1;
     }
     let kinds: Vec<u8> = answers.keys().copied().collect();
-    assert_eq!(kinds, [0, 1, 3, 4, 5, 8, 9, 10], "{answers:?}");
+    assert_eq!(kinds, [0, 1, 3, 4, 5, 8, 9, 10, 20], "{answers:?}");
     assert!(answers.values().all(|&count| count > 100), "{answers:?}");
 }
 
@@ -615,6 +681,6 @@ fn random_updates() {
         }
     }
     let kinds: Vec<u8> = outcomes.keys().copied().collect();
-    assert_eq!(kinds, [0, 4, 5, 8, 9], "{outcomes:?}");
+    assert_eq!(kinds, [0, 4, 5, 8, 9, 20], "{outcomes:?}");
     assert!(outcomes.values().all(|&count| count > 40), "{outcomes:?}");
 }

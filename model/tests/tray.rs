@@ -181,6 +181,28 @@ fn pages_of_blank_images() {
 }
 
 #[test]
+fn protected_pages() {
+    for mode in [Ordinary, Quick] {
+        let started = |protected: &[(usize, usize)]| {
+            let mut image = blank_image();
+            image[redirection(5)] = 255 - 9;
+            for &(field, page) in protected {
+                clear_bit(&mut image, field, page);
+            }
+            Publisher::start(&image, &[0; 32], 5, mode)
+                .map(|publisher| publisher.pages())
+                .map_err(|refusal| (refusal.number(), refusal.page_given_back()))
+        };
+        assert_eq!(started(&[]), Ok(Published { l: 9, t: 1 }));
+        assert_eq!(started(&[(0x000, 5)]), Ok(Published { l: 9, t: 1 }));
+        assert_eq!(started(&[(0x000, 1)]), Ok(Published { l: 9, t: 2 }));
+        assert_eq!(started(&[(0x000, 9)]), Err((20, Some(9))));
+        assert_eq!(started(&[(0x020, 9)]), Err((9, Some(9))));
+        assert_eq!(started(&[(0x000, 9), (0x020, 9)]), Err((20, Some(9))));
+    }
+}
+
+#[test]
 fn counts_of_events() {
     let mut number = NUMBER;
     number[7] = crc8(&number[..7]);

@@ -14,10 +14,10 @@ use Rattle.terms.specs.declared.address.Page.{Page}
 use Rattle.terms.specs.declared.verdict.Verdict.{Verdict}
 use Rattle.terms.specs.declared.verdict.Verdict.the-variants.{Final, Loop, Outside}
 use Rattle.terms.specs.declared.refusal.Refusal.{Refusal}
-use Rattle.terms.specs.declared.refusal.Refusal.the-variants.{ImageLength, StateRange, PageNumber, Loop as LoopRefusal, Outside as OutsideRefusal, Crc16, ReadBack, NoFreePage, RedirectionProtected, BufferLength, Sheet, NoPresence, Crc8, Family, Header, Latitude, Column, NoValue}
+use Rattle.terms.specs.declared.refusal.Refusal.the-variants.{ImageLength, StateRange, PageNumber, Loop as LoopRefusal, Outside as OutsideRefusal, Crc16, ReadBack, NoFreePage, RedirectionProtected, BufferLength, Sheet, NoPresence, Crc8, Family, Header, Latitude, Column, NoValue, DataProtected}
 use Rattle.terms.specs.declared.write_mode.WriteMode.{WriteMode}
 use Rattle.terms.specs.declared.write_mode.WriteMode.the-variants.{Ordinary, Quick}
-use Rattle.memory.specs.declared.layout.Field.the-variants.{RedirectionProtection}
+use Rattle.memory.specs.declared.layout.Field.the-variants.{DataProtection, RedirectionProtection}
 use Rattle.memory.specs.Layout.{isImage, isPage}
 use Rattle.memory.specs.Image.{redirectionOf, pageBit}
 use Rattle.chain.specs.declared.free.Found.{Found}
@@ -71,9 +71,11 @@ module _ (n : ℕ) (some : 0 < n) (mode : WriteMode) (img new : List ℕ) where
   final-fit : (l : Page) → l .0 < n → FitChoice (choiceFinal n img l)
   unfolding choiceFinal choiceFree isStop isPage
   final-fit l a =
-      either FitChoice (pageBit n RedirectionProtection img (l .0)) _ _
+      either FitChoice (pageBit n DataProtection img (l .0)) _ _
+      (λ _. either FitChoice (pageBit n RedirectionProtection img (l .0)) _ _
       (λ _. found-fit l (lowestFree n img (l .0)) a refl)
-      (λ _. stopped-fit (RedirectionProtected l) (lt-ltb (l .0) n a))
+      (λ _. stopped-fit (RedirectionProtected l) (lt-ltb (l .0) n a)))
+      (λ _. stopped-fit (DataProtected l) (lt-ltb (l .0) n a))
 
   walked-fit : (p : ℕ) (v : Verdict) → p < n → walkOf n img p ≡ v → FitChoice (choiceWalked n img v)
   unfolding choiceWalked walkOf isStop isPage
@@ -219,6 +221,7 @@ six-stops n Header h e = absurd (omega arith)
 six-stops n Latitude h e = absurd (omega arith)
 six-stops n Column h e = absurd (omega arith)
 six-stops n NoValue h e = absurd (omega arith)
+six-stops n (DataProtected l) h e = absurd (omega arith)
 
 -- what is told is not 6
 abbrev NotCrc : Told Next → Type 0

@@ -34,7 +34,7 @@ foundValues (accepted p) = accepted (p .0 ∷ [])
 unfoldable pub freeValues : ℕ → List ℕ → ℕ → List ℕ → Told (List ℕ)
 freeValues n img other answer = judge (isAnswer answer) 10 (foundValues (freeAnswer n img other))
 
--- 10 for the answer's buffer and for the number, then the update's own: 1, 10, 3, 4, 5, 9, 8, or L and T
+-- 10 for the answer's buffer and for the number, then the update's own: 1, 10, 3, 4, 5, 20, 9, 8, or L and T
 unfoldable pub updateValues : ℕ → List ℕ → List ℕ → List ℕ → ℕ → List ℕ → Told (List ℕ)
 updateValues n img number new p answer = judge (isAnswer answer) 10 (judge (isNumber number) 10 (updateAnswer n img new p))
 

@@ -21,7 +21,7 @@ abbrev pub started : Told (List ℕ) → Told Next → Told Next
 started (refused number values) told = refused number values
 started (accepted values) told = told
 
--- the start's own refusals, 1, 10, 3, 4, 5, 9, 8, or what the last call told
+-- the start's own refusals, 1, 10, 3, 4, 5, 20, 9, 8, or what the last call told
 unfoldable pub publishTold : ℕ → WriteMode → List ℕ → List ℕ → ℕ → List ℕ → Told Next
 publishTold n mode img new p replies = started (startAnswer n img new p) (publisherEnd n (startState n mode img new p) replies)
 

@@ -101,7 +101,7 @@ fn tell_update(updated: Updated, answer: &mut [u8]) -> u32
     }
 }
 
-// A whole update of a page in a mode, on the image of a chip with this number, cut after so many events. Refused: 10, 1, 3, 4, 5, 9, 8.
+// A whole update of a page in a mode, on the image of a chip with this number, cut after so many events. Refused: 10, 1, 3, 4, 5, 20, 9, 8.
 fn update_in(
     mode: WriteMode,
     image: &mut [u8],

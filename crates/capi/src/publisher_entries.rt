@@ -87,7 +87,7 @@ fn run_judged(
 }
 
 // The update of a page in a mode by a publisher fed these replies: a byte for each call, its event or FFh, and what the last call told.
-// Refused: 10, 2, 1, 3, 4, 5, 9, 8.
+// Refused: 10, 2, 1, 3, 4, 5, 20, 9, 8.
 fn run_in(
     mode: WriteMode,
     image: &[u8],
@@ -172,7 +172,7 @@ fn keep_started(begun: Started, state: &mut [u8], answer: &mut [u8]) -> u32
     }
 }
 
-// The state before the first call of an update in a mode. Refused: 10, 1, 3, 4, 5, 9, 8.
+// The state before the first call of an update in a mode. Refused: 10, 1, 3, 4, 5, 20, 9, 8.
 fn start_in(
     mode: WriteMode,
     image: &[u8],

@@ -7,7 +7,7 @@ use lib.ListN.{set, getD, take, replicate}
 use Rattle.terms.specs.Bits.{bitAt, shiftIn}
 use Rattle.terms.specs.Told.{Told, refused, accepted, refusing, judge}
 use Rattle.terms.specs.declared.refusal.Refusal.{Refusal}
-use Rattle.terms.specs.declared.refusal.Refusal.the-variants.{ImageLength, StateRange, PageNumber, Loop, Outside, Crc16, ReadBack, NoFreePage, RedirectionProtected, BufferLength, Sheet, NoPresence, Crc8, Family, Header, Latitude, Column, NoValue}
+use Rattle.terms.specs.declared.refusal.Refusal.the-variants.{ImageLength, StateRange, PageNumber, Loop, Outside, Crc16, ReadBack, NoFreePage, RedirectionProtected, BufferLength, Sheet, NoPresence, Crc8, Family, Header, Latitude, Column, NoValue, DataProtected}
 use Rattle.bus.specs.declared.Event.the-variants.{Reset, Slot}
 use Rattle.crc.specs.Crc.{crc8Of}
 use Rattle.master.specs.Next.{Next, send, tells}
@@ -114,6 +114,7 @@ isStop Header = false
 isStop Latitude = false
 isStop Column = false
 isStop NoValue = false
+isStop (DataProtected l) = false
 
 -- the bytes are a number that the read accepts
 unfoldable pub isNumber : List ℕ → Bool

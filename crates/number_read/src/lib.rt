@@ -228,6 +228,7 @@ fn is_stop(refusal: Refusal) -> bool
         Refusal::Latitude => false,
         Refusal::Column => false,
         Refusal::NoValue => false,
+        Refusal::DataProtected(_) => false,
     }
 }
 

@@ -2,7 +2,7 @@
 use mathlib.Core.Path.{_≡_, refl}
 use Rattle.terms.specs.Refusal.{numberOf}
 use Rattle.terms.specs.declared.refusal.Refusal.{Refusal}
-use Rattle.terms.specs.declared.refusal.Refusal.the-variants.{ImageLength, StateRange, PageNumber, Loop, Outside, Crc16, ReadBack, NoFreePage, RedirectionProtected, BufferLength, Sheet, NoPresence, Crc8, Family, Header, Latitude, Column, NoValue}
+use Rattle.terms.specs.declared.refusal.Refusal.the-variants.{ImageLength, StateRange, PageNumber, Loop, Outside, Crc16, ReadBack, NoFreePage, RedirectionProtected, BufferLength, Sheet, NoPresence, Crc8, Family, Header, Latitude, Column, NoValue, DataProtected}
 use Rattle.packing.specs.Front.{valueOf, refusalOf, RefusalPacking}
 
 pub refusal-back : (r : Refusal) → refusalOf (numberOf r) (valueOf r) ≡ r
@@ -25,6 +25,7 @@ refusal-back Header = refl
 refusal-back Latitude = refl
 refusal-back Column = refl
 refusal-back NoValue = refl
+refusal-back (DataProtected l) = refl
 
 pub refusal-packing : RefusalPacking
 refusal-packing = record { refusal-back = refusal-back }

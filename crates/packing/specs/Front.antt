@@ -8,7 +8,7 @@ use lib.ListN.{length, getD, drop, replicate}
 use Rattle.terms.specs.Refusal.{numberOf, valuesOf}
 use Rattle.terms.specs.Told.{Told, accepted, judge, Done, done, unlessRefused}
 use Rattle.terms.specs.declared.refusal.Refusal.{Refusal}
-use Rattle.terms.specs.declared.refusal.Refusal.the-variants.{ImageLength, StateRange, PageNumber, Loop, Outside, Crc16, ReadBack, NoFreePage, RedirectionProtected, BufferLength, Sheet, NoPresence, Crc8, Family, Header, Latitude, Column, NoValue}
+use Rattle.terms.specs.declared.refusal.Refusal.the-variants.{ImageLength, StateRange, PageNumber, Loop, Outside, Crc16, ReadBack, NoFreePage, RedirectionProtected, BufferLength, Sheet, NoPresence, Crc8, Family, Header, Latitude, Column, NoValue, DataProtected}
 use Rattle.terms.specs.declared.write_mode.WriteMode.{WriteMode}
 use Rattle.terms.specs.declared.write_mode.WriteMode.the-variants.{Ordinary, Quick}
 use Rattle.memory.specs.Page.{copied}
@@ -135,7 +135,8 @@ refusalOf number value =
     (cond (eqb number 17) Latitude
     (cond (eqb number 18) Column
     (cond (eqb number 19) NoValue
-    ImageLength))))))))))))))))
+    (cond (eqb number 20) (DataProtected (record { 0 = value }))
+    ImageLength)))))))))))))))))
 
 -- the front of a state that a refusal stopped
 unfoldable pub stopFront : ℕ → Refusal → Front

@@ -252,6 +252,7 @@ pub fn refusal_of(number: u8, value: u8) -> Refusal
         17 => Refusal::Latitude,
         18 => Refusal::Column,
         19 => Refusal::NoValue,
+        20 => Refusal::DataProtected(Page(value)),
         _ => Refusal::ImageLength,
     }
 }

@@ -9,7 +9,7 @@ use Rattle.terms.specs.Bits.{one, bitAt}
 use Rattle.terms.specs.Told.{Told, refused, accepted, refusing, judge}
 use Rattle.terms.specs.declared.address.Page.{Page}
 use Rattle.terms.specs.declared.refusal.Refusal.{Refusal}
-use Rattle.terms.specs.declared.refusal.Refusal.the-variants.{ImageLength, StateRange, PageNumber, Loop, Outside, Crc16, ReadBack, NoFreePage, RedirectionProtected, BufferLength, Sheet, NoPresence, Crc8, Family, Header, Latitude, Column, NoValue}
+use Rattle.terms.specs.declared.refusal.Refusal.the-variants.{ImageLength, StateRange, PageNumber, Loop, Outside, Crc16, ReadBack, NoFreePage, RedirectionProtected, BufferLength, Sheet, NoPresence, Crc8, Family, Header, Latitude, Column, NoValue, DataProtected}
 use Rattle.bus.specs.declared.Event.the-variants.{Reset, Slot}
 use Rattle.crc.specs.Crc.{crc16Of, crc16Word}
 use Rattle.memory.specs.Layout.{isPage}
@@ -173,6 +173,7 @@ isStop n Header = false
 isStop n Latitude = false
 isStop n Column = false
 isStop n NoValue = false
+isStop n (DataProtected l) = false
 
 unfoldable pub phaseInRange : ℕ → Phase → Bool
 phaseInRange n Begin = true

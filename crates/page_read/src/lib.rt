@@ -382,6 +382,7 @@ fn is_stop(last: Page, refusal: Refusal) -> bool
         Refusal::Latitude => false,
         Refusal::Column => false,
         Refusal::NoValue => false,
+        Refusal::DataProtected(_) => false,
     }
 }
 

@@ -25,7 +25,7 @@ plan-laws n mode c new p l t whole low a =
       long = m .long;
       counted = plan-total mode (l .0) (t .0) (bitmapByte n (c .image) (t .0)) new (m .long);
       shows = pulse-shows mode (l .0) (t .0) (bitmapByte n (c .image) (t .0)) new (m .long);
-      fits = plan-fits n whole mode c new (l .0) (t .0) ok free (m .unprotected) (a .new-bytes) (a .ready);
-      leaves = plan-leaves n whole mode c new (l .0) (t .0) ok free (m .unprotected) (a .new-bytes) (a .ready);
-      reads = plan-reads n whole mode c new (l .0) (t .0) ok free (m .unprotected) (a .new-bytes) (a .ready);
+      fits = plan-fits n whole mode c new (l .0) (t .0) ok free (m .redirection-open) (a .new-bytes) (a .ready);
+      leaves = plan-leaves n whole mode c new (l .0) (t .0) ok free (m .redirection-open) (a .new-bytes) (a .ready);
+      reads = plan-reads n whole mode c new (l .0) (t .0) ok free (m .redirection-open) (a .new-bytes) (a .ready);
     }

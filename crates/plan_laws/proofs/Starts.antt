@@ -1,4 +1,4 @@
--- What it means that the start accepted: its tests one by one, and that the page asked for is not the free page.
+-- What it means that the start accepted, or told 20: its tests one by one; and that the page asked for is not the free page.
 use Prim.Native.Nat.{ℕ, zero, suc, _<_, _≤_}
 use mathlib.Core.Path.{_≡_, refl, sym, ap, _∙_}
 use mathlib.Core.Bool.{Bool, true, false, cond}
@@ -6,13 +6,15 @@ use mathlib.Core.List.{List}
 use native.Mathlib.Omega.{arith}
 use lib.Dec.{eqb}
 use lib.ListN.{length}
-use borrow.Author.Tests.{eqb-true}
+use borrow.Author.Tests.{eqb-true, eq-eqb, lt-ltb}
+use Rattle.terms.specs.Told.{refused}
+use Rattle.terms.specs.Refusal.{numberOf}
 use Rattle.terms.specs.declared.address.Page.{Page}
 use Rattle.terms.specs.declared.refusal.Refusal.{Refusal}
-use Rattle.terms.specs.declared.refusal.Refusal.the-variants.{ImageLength, PageNumber, Loop as LoopRefusal, Outside as OutsideRefusal, NoFreePage, RedirectionProtected, BufferLength}
+use Rattle.terms.specs.declared.refusal.Refusal.the-variants.{ImageLength, PageNumber, Loop as LoopRefusal, Outside as OutsideRefusal, NoFreePage, RedirectionProtected, BufferLength, DataProtected}
 use Rattle.terms.specs.declared.verdict.Verdict.{Verdict}
 use Rattle.terms.specs.declared.verdict.Verdict.the-variants.{Final, Loop, Outside}
-use Rattle.memory.specs.declared.layout.Field.the-variants.{RedirectionProtection}
+use Rattle.memory.specs.declared.layout.Field.the-variants.{DataProtection, RedirectionProtection}
 use Rattle.memory.specs.Layout.{imageSize, isImage, isPage}
 use Rattle.memory.specs.Image.{redirectionOf, pageBit}
 use Rattle.memory.proofs.Sizes.{image-length, page-below}
@@ -27,16 +29,8 @@ use Rattle.update_laws.proofs.Images.{Accepted}
 use Rattle.update_laws.proofs.Readings.{accepted}
 use Rattle.publisher.specs.declared.Choice.{Choice}
 use Rattle.publisher.specs.declared.Choice.the-variants.{Refused, Accepted as Chosen}
-use Rattle.publisher.specs.Start.{foundChoice, choiceFree, choiceFinal, choiceWalked, choiceOf}
-
-pub record Means (n : ℕ) (img new : List ℕ) (p : ℕ) (l t : Page) : Type 0 where
-  pub hops : ℕ
-  pub size : length img ≡ imageSize n
-  pub long : length new ≡ 32
-  pub on-chip : p < n
-  pub walk : walkOf n img p ≡ Final l hops
-  pub unprotected : pageBit n RedirectionProtection img (l .0) ≡ true
-  pub found : lowestFree n img (l .0) ≡ At t
+use Rattle.publisher.specs.Start.{foundChoice, choiceFree, choiceFinal, choiceWalked, choiceOf, choiceTold, startAnswer}
+use Rattle.plan_laws.specs.Start.{Open, Closed, StartLaws}
 
 module _ (l t : Page) where
   not-chosen : {A : Type 0} (r : Refusal) → Refused r ≡ Chosen l t → A
@@ -52,7 +46,7 @@ module _ (l t : Page) where
   free-found m (At q) h = (cc, cc)
   free-found m Nothing h = not-chosen NoFreePage h
 
-  pub chosen-means : (n : ℕ) (img new : List ℕ) (p : ℕ) → choiceOf n img new p ≡ Chosen l t → Means n img new p l t
+  pub chosen-means : (n : ℕ) (img new : List ℕ) (p : ℕ) → choiceOf n img new p ≡ Chosen l t → Open n img new p l t
   unfolding choiceOf choiceWalked choiceFinal choiceFree
   chosen-means n img new p h =
       let a = passed (isImage n img) _ ImageLength h in
@@ -60,16 +54,17 @@ module _ (l t : Page) where
       let c = passed (isPage n p) _ PageNumber (b .1) in
       walked (image-length n img (a .0)) (eqb-true (length new) 32 (b .0)) (page-below n p (c .0)) (walkOf n img p) refl (c .1)
     where
-      walked : length img ≡ imageSize n → length new ≡ 32 → p < n → (v : Verdict) → walkOf n img p ≡ v → choiceWalked n img v ≡ Chosen l t → Means n img new p l t
+      walked : length img ≡ imageSize n → length new ≡ 32 → p < n → (v : Verdict) → walkOf n img p ≡ v → choiceWalked n img v ≡ Chosen l t → Open n img new p l t
       walked a b c (Final m k) w r =
-          let o = passed (pageBit n RedirectionProtection img (m .0)) _ (RedirectionProtected m) r in
+          let d = passed (pageBit n DataProtection img (m .0)) _ (DataProtected m) r in
+          let o = passed (pageBit n RedirectionProtection img (m .0)) _ (RedirectionProtected m) (d .1) in
           let f = free-found m (lowestFree n img (m .0)) (o .1) in
-          let found : Means n img new p m t = record { hops = k; size = a; long = b; on-chip = c; walk = w; unprotected = o .0; found = f .1 } in
+          let found : Open n img new p m t = record { hops = k; size = a; long = b; on-chip = c; walk = w; data-open = d .0; redirection-open = o .0; found = f .1 } in
           rw (f .0) at found
       walked a b c Loop w r = not-chosen LoopRefusal r
       walked a b c (Outside x) w r = not-chosen (OutsideRefusal x) r
 
-module _ (n : ℕ) (img new : List ℕ) (p : ℕ) (l t : Page) (low : n ≤ 256) (m : Means n img new p l t) where
+module _ (n : ℕ) (img new : List ℕ) (p : ℕ) (l t : Page) (low : n ≤ 256) (m : Open n img new p l t) where
   pub is-accepted : Accepted n img new (l .0) (t .0)
   is-accepted = accepted n img new p (l .0) (m .hops) (t .0) (m .size) low (m .long) (m .on-chip) (m .walk) (m .found)
 
@@ -84,3 +79,68 @@ module _ (n : ℕ) (img new : List ℕ) (p : ℕ) (l t : Page) (low : n ≤ 256)
   pub not-target : p ≡ t .0 → ⊥
   unfolding walkOf
   not-target = elsewhere (m .hops) (final-means (redirectionOf n img) n p (l .0) (m .hops) (m .on-chip) .0 (m .walk))
+
+-- ---- the start's answer
+
+module _ (n : ℕ) (img new : List ℕ) (p : ℕ) where
+  -- the tests before the walk pass
+  walked : length img ≡ imageSize n → length new ≡ 32 → p < n → choiceOf n img new p ≡ choiceWalked n img (walkOf n img p)
+  unfolding choiceOf isImage isPage
+  walked size long low = simp (eq-eqb (length img) (imageSize n) size, eq-eqb (length new) 32 long, lt-ltb p n low)
+
+  chooses : (l t : Page) → Open n img new p l t → choiceOf n img new p ≡ Chosen l t
+  unfolding choiceWalked choiceFinal choiceFree foundChoice
+  chooses l t o = walked (o .size) (o .long) (o .on-chip) ∙ simp (o .walk, o .data-open, o .redirection-open, o .found)
+
+  closing : (values : List ℕ) → length img ≡ imageSize n → length new ≡ 32 → p < n → Closed n img p values → startAnswer n img new p ≡ refused 20 values
+  unfolding choiceWalked choiceFinal
+  closing values size long low c = ap choiceTold (walked size long low) ∙ simp (c .walk, c .protected, c .given)
+
+  -- ---- 20 is told by one test alone
+
+  module _ (values : List ℕ) where
+    abbrev Tells : Choice → Type 0
+    Tells c = choiceTold c ≡ refused 20 values
+
+    told-by : {A : Type 0} (r : Refusal) → (numberOf r ≡ 20 → ⊥) → Tells (Refused r) → A
+    told-by r not-20 h = absurd (not-20 cc)
+
+    -- a test with another number has held
+    beyond : (b : Bool) (x : Choice) (r : Refusal) → (numberOf r ≡ 20 → ⊥) → Tells (cond b x (Refused r)) → Tells x
+    beyond true x r not-20 h = h
+    beyond false x r not-20 h = told-by r not-20 h
+
+    free-tells-not : {A : Type 0} (l : Page) (f : Found) → Tells (foundChoice l f) → A
+    unfolding foundChoice
+    free-tells-not l (At t) h = absurd (let z : _≡_ {A = ℕ} 0 1 = cc in omega arith)
+    free-tells-not l Nothing h = told-by NoFreePage (λ e. omega arith) h
+
+    final-tells : (l : Page) (hops : ℕ) → walkOf n img p ≡ Final l hops → (bit : Bool) → pageBit n DataProtection img (l .0) ≡ bit
+        → Tells (cond bit (cond (pageBit n RedirectionProtection img (l .0)) (choiceFree n img l) (Refused (RedirectionProtected l))) (Refused (DataProtected l)))
+        → Closed n img p values
+    unfolding choiceFree
+    final-tells l hops w true e h = free-tells-not l (lowestFree n img (l .0)) (beyond (pageBit n RedirectionProtection img (l .0)) _ (RedirectionProtected l) (λ e. omega arith) h)
+    final-tells l hops w false e h = record { last = l; hops = hops; walk = w; protected = e; given = cc }
+
+    walk-tells : (v : Verdict) → walkOf n img p ≡ v → Tells (choiceWalked n img v) → Closed n img p values
+    unfolding choiceWalked choiceFinal
+    walk-tells (Final l hops) w h = final-tells l hops w (pageBit n DataProtection img (l .0)) refl h
+    walk-tells Loop w h = told-by LoopRefusal (λ e. omega arith) h
+    walk-tells (Outside x) w h = told-by (OutsideRefusal x) (λ e. omega arith) h
+
+    tells : startAnswer n img new p ≡ refused 20 values → Closed n img p values
+    unfolding choiceOf
+    tells h =
+        walk-tells (walkOf n img p) refl
+        (beyond (isPage n p) _ PageNumber (λ e. omega arith)
+        (beyond (eqb (length new) 32) _ BufferLength (λ e. omega arith)
+        (beyond (isImage n img) _ ImageLength (λ e. omega arith) h)))
+
+  pub start-laws : StartLaws n img new p
+  start-laws =
+      record {
+        means = λ l t. chosen-means l t n img new p;
+        accepts = chooses;
+        closes = closing;
+        only = tells;
+      }

@@ -7,7 +7,7 @@ use lib.ListN.{getD}
 use Rattle.terms.specs.Bits.{same}
 use Rattle.terms.specs.Told.{Told, accepted, refusing, judge}
 use Rattle.terms.specs.declared.refusal.Refusal.{Refusal}
-use Rattle.terms.specs.declared.refusal.Refusal.the-variants.{ImageLength, StateRange, PageNumber, Loop, Outside, Crc16, ReadBack, NoFreePage, RedirectionProtected, BufferLength, Sheet, NoPresence, Crc8, Family, Header, Latitude, Column, NoValue}
+use Rattle.terms.specs.declared.refusal.Refusal.the-variants.{ImageLength, StateRange, PageNumber, Loop, Outside, Crc16, ReadBack, NoFreePage, RedirectionProtected, BufferLength, Sheet, NoPresence, Crc8, Family, Header, Latitude, Column, NoValue, DataProtected}
 use Rattle.terms.specs.declared.write_mode.WriteMode.{WriteMode}
 use Rattle.terms.specs.declared.write_mode.WriteMode.the-variants.{Ordinary, Quick}
 use Rattle.memory.specs.Layout.{isPage}
@@ -83,7 +83,7 @@ unfoldable pub readsCrc : WriteMode → Bool
 readsCrc Ordinary = true
 readsCrc Quick = false
 
--- the refusals that stop a publisher: 1, 3 to 5, 7 to 10 and 13, and in the ordinary mode, which reads CRCs, 6
+-- the refusals that stop a publisher: 1, 3 to 5, 7 to 10, 13 and 20, and in the ordinary mode, which reads CRCs, 6
 unfoldable pub isStop : WriteMode → ℕ → Refusal → Bool
 isStop mode n ImageLength = true
 isStop mode n StateRange = false
@@ -103,6 +103,7 @@ isStop mode n Header = false
 isStop mode n Latitude = false
 isStop mode n Column = false
 isStop mode n NoValue = false
+isStop mode n (DataProtected l) = isPage n (l .0)
 
 unfoldable pub stageInRange : WriteMode → ℕ → Stage → Bool
 stageInRange mode n (Running k good) = leb k (totalOf mode)

@@ -10,8 +10,8 @@ use Rattle.terms.specs.declared.verdict.Verdict.{Verdict}
 use Rattle.terms.specs.declared.verdict.Verdict.the-variants.{Final, Loop, Outside}
 use Rattle.terms.specs.declared.write_mode.WriteMode.{WriteMode}
 use Rattle.terms.specs.declared.refusal.Refusal.{Refusal}
-use Rattle.terms.specs.declared.refusal.Refusal.the-variants.{ImageLength, PageNumber, Loop as LoopRefusal, Outside as OutsideRefusal, NoFreePage, RedirectionProtected, BufferLength}
-use Rattle.memory.specs.declared.layout.Field.the-variants.{RedirectionProtection}
+use Rattle.terms.specs.declared.refusal.Refusal.the-variants.{ImageLength, PageNumber, Loop as LoopRefusal, Outside as OutsideRefusal, NoFreePage, RedirectionProtected, BufferLength, DataProtected}
+use Rattle.memory.specs.declared.layout.Field.the-variants.{DataProtection, RedirectionProtection}
 use Rattle.memory.specs.Layout.{statusIndex, isImage, isPage}
 use Rattle.memory.specs.Image.{pageBit}
 use Rattle.memory.specs.Page.{copied}
@@ -26,7 +26,7 @@ use Rattle.publisher.specs.declared.Publisher.{Publisher}
 use Rattle.publisher.specs.declared.StartAnswer.{StartAnswer}
 use Rattle.publisher.specs.declared.StartAnswer.the-variants.{Refused as StartRefused, Ready}
 
--- ---- L and T: refusals 1, 10, 3, 4, 5, 9, 8, in this order
+-- ---- L and T: refusals 1, 10, 3, 4, 5, 20, 9, 8, in this order
 
 -- T is the lowest free page other than L
 unfoldable pub foundChoice : Page → Found → Choice
@@ -36,8 +36,14 @@ foundChoice l Nothing = Refused NoFreePage
 unfoldable pub choiceFree : ℕ → List ℕ → Page → Choice
 choiceFree n img l = foundChoice l (lowestFree n img (l .0))
 
+-- a page whose data are protected is not superseded (M-104)
 unfoldable pub choiceFinal : ℕ → List ℕ → Page → Choice
-choiceFinal n img l = cond (pageBit n RedirectionProtection img (l .0)) (choiceFree n img l) (Refused (RedirectionProtected l))
+choiceFinal n img l =
+    cond (pageBit n DataProtection img (l .0))
+    (cond (pageBit n RedirectionProtection img (l .0))
+    (choiceFree n img l)
+    (Refused (RedirectionProtected l)))
+    (Refused (DataProtected l))
 
 -- L is the final page of p
 unfoldable pub choiceWalked : ℕ → List ℕ → Verdict → Choice

@@ -79,11 +79,13 @@ fn choose_free(image: &[u8], last: Page, l: Page) -> Choice
 fn choose_final(image: &[u8], last: Page, l: Page) -> Choice
     ensures { λ r. ⌜ r ≡ choiceFinal (pageCount last) (now (image .entry)) l ⌝ }
 {
-    if image::page_bit(image, last, Field::RedirectionProtection, l) {
-        choose_free(image, last, l)
-    } else {
-        Choice::Refused(Refusal::RedirectionProtected(l))
+    if !image::page_bit(image, last, Field::DataProtection, l) {
+        return Choice::Refused(Refusal::DataProtected(l));
     }
+    if !image::page_bit(image, last, Field::RedirectionProtection, l) {
+        return Choice::Refused(Refusal::RedirectionProtected(l));
+    }
+    choose_free(image, last, l)
 }
 
 fn choose_walked(image: &[u8], last: Page, v: Verdict) -> Choice
@@ -158,7 +160,7 @@ fn make_stopped(mode: WriteMode, refusal: Refusal) -> Publisher
 }
 
 // The start reads the image and the new bytes, writes neither, and gives a state and no event.
-// Refused, in both modes: 1, 10, 3, 4, 5, 9, 8; the state then repeats that.
+// Refused, in both modes: 1, 10, 3, 4, 5, 20, 9, 8; the state then repeats that.
 pub fn start(mode: WriteMode, image: &[u8], new: &[u8], page: Page) -> Started
     ensures answer { λ r. ⌜ startTold (r .answer) ≡ startAnswer 64 (now (image .entry)) (now (new .entry)) (page .0) ⌝ }
     ensures state { λ r. ⌜ r .state ≡ startState 64 mode (now (image .entry)) (now (new .entry)) (page .0) ⌝ }
@@ -351,6 +353,7 @@ fn is_stop(mode: WriteMode, last: Page, refusal: Refusal) -> bool
         Refusal::Latitude => false,
         Refusal::Column => false,
         Refusal::NoValue => false,
+        Refusal::DataProtected(l) => layout::is_page(last, l),
     }
 }
 

@@ -6,7 +6,7 @@ use mathlib.Core.List.{List}
 use lib.Dec.{eqb}
 use lib.ListN.{getD}
 use Rattle.terms.specs.declared.refusal.Refusal.{Refusal}
-use Rattle.terms.specs.declared.refusal.Refusal.the-variants.{ImageLength, StateRange, PageNumber, Loop, Outside, Crc16, ReadBack, NoFreePage, RedirectionProtected, BufferLength, Sheet, NoPresence, Crc8, Family, Header, Latitude, Column, NoValue}
+use Rattle.terms.specs.declared.refusal.Refusal.the-variants.{ImageLength, StateRange, PageNumber, Loop, Outside, Crc16, ReadBack, NoFreePage, RedirectionProtected, BufferLength, Sheet, NoPresence, Crc8, Family, Header, Latitude, Column, NoValue, DataProtected}
 use Rattle.terms.specs.Refusal.{numberOf, valuesOf}
 
 -- the refusal of a number, with its values
@@ -29,7 +29,8 @@ refusalOf k values =
     (cond (eqb k 16) Header
     (cond (eqb k 17) Latitude
     (cond (eqb k 18) Column
-    NoValue))))))))))))))))
+    (cond (eqb k 19) NoValue
+    (DataProtected (record { 0 = getD values 0 0 })))))))))))))))))))
 
 back : (r : Refusal) → refusalOf (numberOf r) (valuesOf r) ≡ r
 unfolding refusalOf
@@ -51,6 +52,7 @@ back Header = refl
 back Latitude = refl
 back Column = refl
 back NoValue = refl
+back (DataProtected l) = refl
 
 pub same-refusal : (r s : Refusal) → numberOf r ≡ numberOf s → valuesOf r ≡ valuesOf s → r ≡ s
 same-refusal r s e v = sym (back r) ∙ ap₂ refusalOf e v ∙ back s

@@ -22,6 +22,7 @@ pub enum Refusal {
     Latitude,
     Column,
     NoValue,
+    DataProtected(Page),
 }
 
 // What a refusal gives back besides a state.
@@ -59,6 +60,7 @@ pub fn number(refusal: Refusal) -> u8
         Refusal::Latitude => 17,
         Refusal::Column => 18,
         Refusal::NoValue => 19,
+        Refusal::DataProtected(_) => 20,
     }
 }
 
@@ -85,5 +87,6 @@ pub fn given_back(refusal: Refusal) -> Given
         Refusal::Latitude => Given::Nothing,
         Refusal::Column => Given::Nothing,
         Refusal::NoValue => Given::Nothing,
+        Refusal::DataProtected(l) => Given::One(l.0),
     }
 }

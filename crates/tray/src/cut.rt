@@ -83,7 +83,7 @@ fn cuts(
 pub fn ordinary(image: &mut [u8; 2368], new: &mut [u8; 32]) {
     let mode = WriteMode::Ordinary;
     cuts(b"cut-a", 0x6375_7420_626C_616E, true, mode, image, new);
-    cuts(b"cut-b", 0x6375_7420_7573_6540, false, mode, image, new);
+    cuts(b"cut-b", 0x6375_7420_7573_6414, false, mode, image, new);
     cuts(b"cut-c", 0x6375_7420_7573_656E, false, mode, image, new);
     cuts(b"cut-d", 0x6375_7420_7573_6524, false, mode, image, new);
 }
@@ -92,5 +92,5 @@ pub fn ordinary(image: &mut [u8; 2368], new: &mut [u8; 32]) {
 pub fn quick(image: &mut [u8; 2368], new: &mut [u8; 32]) {
     let mode = WriteMode::Quick;
     cuts(b"quick-a", 0x7175_6963_6B20_626C, true, mode, image, new);
-    cuts(b"quick-b", 0x7175_6963_6B20_757E, false, mode, image, new);
+    cuts(b"quick-b", 0x7175_6963_6B20_7845, false, mode, image, new);
 }

@@ -4,6 +4,7 @@ use number_read::Answer;
 use number_read::Stepped;
 use terms::address::Page;
 use terms::address::Space;
+use terms::refusal::Given;
 use terms::refusal::Refusal;
 use terms::verdict::Verdict;
 use terms::write_mode;
@@ -25,6 +26,13 @@ fn say_mode(mode: WriteMode) {
 fn say_refusal(r: Refusal) {
     text::words(b"refused ");
     text::decimal(terms::refusal::number(r) as u64);
+    match terms::refusal::given_back(r) {
+        Given::Nothing => {}
+        Given::One(v) => {
+            text::words(b" with ");
+            text::decimal(v as u64);
+        }
+    }
 }
 
 fn say_final(page: Page, hops: u8) {
@@ -465,6 +473,47 @@ fn updates(mode: WriteMode, image: &mut [u8; 2368], new: &mut [u8; 32]) {
     full_update(mode, image, new);
 }
 
+// Page 5 names page 9, so that L is 9, and T is 1 where that is free.
+fn lead(image: &mut [u8; 2368]) {
+    fill::blank(image);
+    place::name(image, 5, 9);
+}
+
+fn led_update(mode: WriteMode, words: &[u8], image: &mut [u8; 2368], new: &mut [u8; 32]) {
+    say_mode(mode);
+    text::words(b"page 5 naming 9, ");
+    text::words(words);
+    text::words(b" protected, p = 5: ");
+    whole(mode, 5, image, new);
+}
+
+fn data_protected(
+    mode: WriteMode,
+    words: &[u8],
+    page: u8,
+    image: &mut [u8; 2368],
+    new: &mut [u8; 32],
+) {
+    lead(image);
+    place::clear(image, 0x00, page);
+    led_update(mode, words, image, new);
+}
+
+fn protected(mode: WriteMode, image: &mut [u8; 2368], new: &mut [u8; 32]) {
+    lead(image);
+    led_update(mode, b"nothing", image, new);
+    data_protected(mode, b"data of 5", 5, image, new);
+    data_protected(mode, b"data of 1", 1, image, new);
+    data_protected(mode, b"data of 9", 9, image, new);
+    lead(image);
+    place::clear(image, 0x20, 9);
+    led_update(mode, b"redirection byte of 9", image, new);
+    lead(image);
+    place::clear(image, 0x00, 9);
+    place::clear(image, 0x20, 9);
+    led_update(mode, b"both of 9", image, new);
+}
+
 pub fn all(list: &mut [u8; 65536], image: &mut [u8; 2368], new: &mut [u8; 32]) {
     let mut d = 1u64;
     bytes_on_1(image);
@@ -476,9 +525,11 @@ pub fn all(list: &mut [u8; 65536], image: &mut [u8; 2368], new: &mut [u8; 32]) {
     fill::same(new, 0x22);
     cuts(WriteMode::Ordinary, 1213, image, new);
     updates(WriteMode::Ordinary, image, new);
+    protected(WriteMode::Ordinary, image, new);
     writes(WriteMode::Quick, list, image, &mut d);
     quick_starts(list, image, &mut d);
     quick_pulses(list, image, &mut d);
     cuts(WriteMode::Quick, 669, image, new);
     updates(WriteMode::Quick, image, new);
+    protected(WriteMode::Quick, image, new);
 }

@@ -80,7 +80,7 @@ abbrev pub choiceAnswer : Choice → Told (List ℕ)
 choiceAnswer (Refused r) = refusing r
 choiceAnswer (Accepted l t) = accepted (l .0 ∷ t .0 ∷ [])
 
--- 1, 10, 3, 4, 5, 9, 8, or L and T, in both modes
+-- 1, 10, 3, 4, 5, 20, 9, 8, or L and T, in both modes
 abbrev pub updateAnswer : ℕ → List ℕ → List ℕ → ℕ → Told (List ℕ)
 updateAnswer n img new p = choiceAnswer (choiceOf n img new p)
 

@@ -116,7 +116,7 @@ fn run(start: Joined, calls: u32, image: &mut [u8])
 }
 
 // The update of a page of the chip with this number whose memory is the image, cut after so many events (or whole, where they are more
-// than the plan has). Refused, with the image untouched: 1, 10, 3, 4, 5, 9, 8. Else L and T, and the image as the cut leaves it.
+// than the plan has). Refused, with the image untouched: 1, 10, 3, 4, 5, 20, 9, 8. Else L and T, and the image as the cut leaves it.
 pub fn update(
     mode: WriteMode,
     image: &mut [u8],

@@ -4,7 +4,10 @@ use super::redirection;
 use crate::bits::{bits_of, bytes_of};
 use crate::chip::{Chip, Event, MemoryCommand, WriteMode};
 use crate::crc::{crc16_sent, crc8};
-use crate::memory::{blank_image, check_page, page_bytes, DATA_LENGTH, USED_BITMAP};
+use crate::memory::{
+    blank_image, check_page, page_bytes, DATA_LENGTH, DATA_PROTECTION, REDIRECTION_PROTECTION,
+    USED_BITMAP,
+};
 use crate::number_read::read_number;
 use crate::publisher::{update, Outcome};
 use crate::random::chain_image;
@@ -20,7 +23,11 @@ fn mode_text(mode: WriteMode) -> &'static str {
 }
 
 fn refusal_text(refusal: Refusal) -> String {
-    format!("refused {}", refusal.number())
+    let number = refusal.number();
+    match refusal.page_given_back() {
+        Some(page) => format!("refused {number} with {page}"),
+        None => format!("refused {number}"),
+    }
 }
 
 fn walk_text(image: &[u8], page: u8) -> String {
@@ -239,6 +246,32 @@ fn updates(mode: WriteMode) -> String {
     )
 }
 
+/// Page 5 names page 9, with these fields' bits of these pages cleared.
+fn led_text(words: &str, cleared: &[(u16, u8)], mode: WriteMode) -> String {
+    let quick = mode_text(mode);
+    let mut image = chain_image(&[5, 9]);
+    for &(field, page) in cleared {
+        image[DATA_LENGTH + usize::from(field) + usize::from(page / 8)] &= !(1 << (page % 8));
+    }
+    let end = update_text(&image, 5, mode);
+    format!("{quick}page 5 naming 9, {words}, p = 5: {end}\n")
+}
+
+/// L is 9, and T is 1 where that is free.
+fn protected(mode: WriteMode) -> String {
+    let data = |page| (DATA_PROTECTION, page);
+    let redirection = |page| (REDIRECTION_PROTECTION, page);
+    [
+        led_text("nothing protected", &[], mode),
+        led_text("data of 5 protected", &[data(5)], mode),
+        led_text("data of 1 protected", &[data(1)], mode),
+        led_text("data of 9 protected", &[data(9)], mode),
+        led_text("redirection byte of 9 protected", &[redirection(9)], mode),
+        led_text("both of 9 protected", &[data(9), redirection(9)], mode),
+    ]
+    .concat()
+}
+
 pub fn all() -> String {
     let none = bytes_text(&crc16_sent(&[]));
     [
@@ -249,11 +282,13 @@ pub fn all() -> String {
         zero_number(),
         cuts(WriteMode::Ordinary, 1213),
         updates(WriteMode::Ordinary),
+        protected(WriteMode::Ordinary),
         writes(WriteMode::Quick),
         quick_starts(),
         quick_pulses(),
         cuts(WriteMode::Quick, 669),
         updates(WriteMode::Quick),
+        protected(WriteMode::Quick),
     ]
     .concat()
 }

@@ -75,10 +75,15 @@ returns-18 : tie.Need-returns-18
 unfolding isStop
 returns-18 c = simp (c .enum-told18 .given .1)
 
+returns-19 : tie.Need-returns-19
+unfolding isStop
+returns-19 c = simp (c .enum-told19 .given .1)
+
 pub is-stop-spec : {M : Type 1} → statement M
 is-stop-spec =
     tie.close
     (tie.spec
+    (λ c. search needs)
     (λ c. search needs)
     (λ c. search needs)
     (λ c. search needs)
@@ -114,4 +119,5 @@ is-stop-spec =
     returns-15
     returns-16
     returns-17
-    returns-18)
+    returns-18
+    returns-19)

@@ -75,6 +75,10 @@ returns-18 : tie.Need-returns-18
 unfolding isStop
 returns-18 c = simp (c .enum-told17 .given .1)
 
+returns-19 : tie.Need-returns-19
+unfolding isStop
+returns-19 c = simp (c .enum-told18 .given .1)
+
 pub is-stop-spec : {M : Type 1} → statement M
 is-stop-spec =
     tie.close
@@ -85,6 +89,7 @@ is-stop-spec =
     (λ c. search needs)
     (λ c. search needs)
     (λ c κs. search needs)
+    (λ c. search needs)
     (λ c. search needs)
     (λ c. search needs)
     (λ c. search needs)
@@ -115,4 +120,5 @@ is-stop-spec =
     returns-15
     returns-16
     returns-17
-    returns-18)
+    returns-18
+    returns-19)

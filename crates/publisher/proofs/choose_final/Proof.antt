@@ -1,4 +1,5 @@
 use mathlib.Core.Path.{_∙_, sym}
+use borrow.Author.Tests.{not-false, not-true}
 use Rattle.publisher.specs.Start.{choiceFinal}
 use borrow.Author.Needs.{needs}
 use Rattle.publisher.proofs.choose_final.Statement.{statement}
@@ -6,13 +7,23 @@ use Rattle.publisher.proofs.choose_final.Tie as tie
 
 returns : tie.Need-returns
 unfolding choiceFinal
-returns c = simp (sym (c .before .before .page-bit .ensures) ∙ c .before .if1 .taken) (c .choose-free .ensures)
+returns c = simp (sym (c .before .page-bit .ensures) ∙ not-true (c .before .page-bit .result) (c .if1 .taken))
 
 returns-2 : tie.Need-returns-2
 unfolding choiceFinal
-returns-2 c = simp (sym (c .before .page-bit .ensures) ∙ c .if1 .left)
+returns-2 c = simp (sym (c .before .before .before .page-bit .ensures) ∙ not-false (c .before .before .before .page-bit .result) (c .before .before .if1 .left), sym (c .before .page-bit2 .ensures) ∙ not-true (c .before .page-bit2 .result) (c .if2 .taken))
+
+returns-3 : tie.Need-returns-3
+unfolding choiceFinal
+returns-3 c = simp (sym (c .before .before .before .before .page-bit .ensures) ∙ not-false (c .before .before .before .before .page-bit .result) (c .before .before .before .if1 .left), sym (c .before .before .page-bit2 .ensures) ∙ not-false (c .before .before .page-bit2 .result) (c .before .if2 .left)) (c .choose-free .ensures)
 
 pub choose-final-spec : {M : Type 1} → statement M
 choose-final-spec =
     tie.close
-    (tie.spec (λ c κs. search needs) (λ c κs. search needs) returns returns-2)
+    (tie.spec
+    (λ c κs. search needs)
+    returns
+    (λ c κs. search needs)
+    returns-2
+    (λ c κs. search needs)
+    returns-3)

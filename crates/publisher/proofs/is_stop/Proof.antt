@@ -75,6 +75,10 @@ returns-18 : tie.Need-returns-18
 unfolding isStop
 returns-18 c = simp (c .enum-told16 .given .1)
 
+returns-19 : tie.Need-returns-19
+unfolding isStop
+returns-19 c = simp (c .before .before .refusal3 .given .1) (c .is-page3 .ensures)
+
 pub is-stop-spec : {M : Type 1} → statement M
 is-stop-spec =
     tie.close
@@ -100,6 +104,8 @@ is-stop-spec =
     (λ c. search needs)
     (λ c. search needs)
     (λ c. search needs)
+    (λ c. search needs)
+    (λ c κs. search needs)
     returns
     returns-2
     returns-3
@@ -117,4 +123,5 @@ is-stop-spec =
     returns-15
     returns-16
     returns-17
-    returns-18)
+    returns-18
+    returns-19)
