@@ -1,19 +1,28 @@
 -- A master joined to a bus. S, B, E and A are the master's states, the bus's, the events and the answers.
 use Prim.Native.Nat.{ℕ, zero, suc}
 use mathlib.Core.Bool.{Bool}
-use mathlib.Core.List.{List, [], _∷_}
+use mathlib.Core.List.{List, [], _∷_, _++_}
 use mathlib.Core.Path.{_≡_}
+
+-- a list begins with another
+pub record Begins {A : Type 0} (whole part : List A) : Type 0 where
+  pub rest : List A
+  pub is : whole ≡ part ++ rest
 
 -- an answer is an event, or none
 pub data Out (E : Type 0) : Type 0 where
   event : E → Out E
   quiet : Out E
 
-pub record Joined (S B A : Type 0) : Type 0 where
-  pub master : S
-  pub bus : B
-  pub reply : Bool
-  pub told : A
+-- calls one after the other, each with what it is given, and the answers to them
+module _ {S I A : Type 0} (call : S → I → S) (told : S → I → A) where
+  abbrev pub calls : S → List I → S
+  calls s [] = s
+  calls s (i ∷ is) = calls (call s i) is
+
+  abbrev pub answers : S → List I → List A
+  answers s [] = []
+  answers s (i ∷ is) = told s i ∷ answers (call s i) is
 
 -- what a bus does: the state after an event, and the reply that it draws
 module _ {E B : Type 0} (react : B → E → B) (line : B → E → Bool) where
@@ -34,38 +43,20 @@ module _ {E B : Type 0} (react : B → E → B) (line : B → E → Bool) where
   drew (event e) b r = line b e
   drew quiet b r = r
 
-  module _ {S A : Type 0} (call : S → Bool → S) (told : S → Bool → A) (out : A → Out E) where
-    abbrev pub shown : A → S → B → Bool → Joined S B A
-    shown a s b r = record { master = s; bus = reached (out a) b; reply = drew (out a) b r; told = a }
+  module _ {A : Type 0} (out : A → Out E) where
+    -- calls that told these answers got these replies, each the one that the last event before it drew
+    abbrev pub GoodAfter : B → Bool → List A → List Bool → Type 0
+    GoodAfter b drawn answers [] = Unit {0}
+    GoodAfter b drawn [] (r ∷ rs) = Unit {0}
+    GoodAfter b drawn (a ∷ answers) (r ∷ rs) = (r ≡ drawn) × GoodAfter (reached (out a) b) (drew (out a) b drawn) answers rs
 
-    -- a call with the reply that the last event drew; its event reaches the bus
-    abbrev pub joint : Joined S B A → Joined S B A
-    joint j = shown (told (j .master) (j .reply)) (call (j .master) (j .reply)) (j .bus) (j .reply)
+    -- the replies are good: each later call but the first gets the one that the last event before it drew
+    abbrev pub Good : B → List A → List Bool → Type 0
+    Good b answers [] = Unit {0}
+    Good b answers (r ∷ rs) = GoodAfter b r answers (r ∷ rs)
 
-    abbrev pub joints : ℕ → Joined S B A → Joined S B A
-    joints zero j = j
-    joints (suc n) j = joints n (joint j)
-
--- calls one after the other, and the answers to them
-module _ {S A : Type 0} (call : S → Bool → S) (told : S → Bool → A) where
-  abbrev pub calls : S → List Bool → S
-  calls s [] = s
-  calls s (r ∷ rs) = calls (call s r) rs
-
-  abbrev pub answers : S → List Bool → List A
-  answers s [] = []
-  answers s (r ∷ rs) = told s r ∷ answers (call s r) rs
-
--- a master whose answer is a function of its state: what it does with replies, and what is out while each of them comes
-module _ {E S A : Type 0} (step : S → Bool → S) (show : S → A) (send : E → A) where
-  abbrev pub drive : S → List Bool → S
-  drive s [] = s
-  drive s (r ∷ rs) = drive (step s r) rs
-
-  abbrev pub shows : S → List Bool → List A
-  shows s [] = []
-  shows s (r ∷ rs) = show s ∷ shows (step s r) rs
-
-  abbrev pub sends : List E → List A
-  sends [] = []
-  sends (e ∷ es) = send e ∷ sends es
+    -- the replies that so many calls get, joined to the bus; the first gets any
+    module _ {S : Type 0} (call : S → Bool → S) (told : S → Bool → A) where
+      unfoldable pub drawnReplies : ℕ → S → B → Bool → List Bool
+      drawnReplies zero s b r = []
+      drawnReplies (suc k) s b r = r ∷ drawnReplies k (call s r) (reached (out (told s r)) b) (drew (out (told s r)) b r)
