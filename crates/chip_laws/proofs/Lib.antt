@@ -5,4 +5,5 @@ pub mod Runs
 pub mod Sessions
 pub mod Slots
 pub mod States
+pub mod Unpulsed
 pub mod Writes

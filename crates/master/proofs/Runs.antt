@@ -173,6 +173,15 @@ bytes-passed (suc k) on h =
       };
     }
 
+-- an end
+pub given-is : {values bytes : List ℕ} {rs : List Bool} {es : List Event} {told : Told Next} {handed : List ℕ} → Runs (gives values bytes) rs es told handed
+    → (rs ≡ []) × (es ≡ []) × (told ≡ accepted (tells values)) × (handed ≡ bytes)
+given-is given = (refl, refl, refl, refl)
+
+pub stopped-is : {number : ℕ} {values : List ℕ} {rs : List Bool} {es : List Event} {told : Told Next} {handed : List ℕ} → Runs (stops number values) rs es told handed
+    → (rs ≡ []) × (es ≡ []) × (told ≡ refused number values) × (handed ≡ [])
+stopped-is stopped = (refl, refl, refl, refl)
+
 -- ---- on a bus that draws these replies
 
 module _ {B : Type 0} (react : B → Event → B) (line : B → Event → Bool) where

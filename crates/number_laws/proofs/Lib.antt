@@ -1,8 +1,5 @@
-pub mod Agrees
-pub mod Course
 pub mod Demand
+pub mod Derived
 pub mod Ds2505
-pub mod Joined
-pub mod Orders
+pub mod Plays
 pub mod Ranges
-pub mod Values

@@ -1,14 +1,17 @@
 -- The start and every call keep to the ranges; within them a call takes the reply and tells what the state then reached shows.
 use Prim.Native.Nat.{ℕ, _+_, _-_, _<_, _≤_}
 use mathlib.Core.Bool.{Bool, true, false, cond}
-use mathlib.Core.List.{List}
-use mathlib.Core.Path.{_≡_, refl, sym}
+use mathlib.Core.List.{List, []}
+use mathlib.Core.Path.{_≡_, refl, sym, _∙_}
 use native.Mathlib.Omega.{arith}
 use lib.Dec.{ltb}
 use borrow.Author.Tests.{lt-ltb, le-ltb, ltb-true, ltb-false}
 use Rattle.terms.specs.Bits.{shiftIn}
-use Rattle.terms.specs.Told.{Told}
+use Rattle.terms.specs.Told.{Told, refused}
+use Rattle.terms.specs.Refusal.{numberOf}
+use Rattle.terms.specs.declared.refusal.Refusal.{Refusal}
 use Rattle.master.specs.Next.{Next}
+use Rattle.master.proofs.Two.{state-range}
 use Rattle.number_read.specs.declared.Phase.{Phase}
 use Rattle.number_read.specs.declared.Phase.the-variants.{Begin, Presence, Command, Receive, Closing, Done, Stopped}
 use Rattle.number_read.specs.declared.NumberRead.{NumberRead}
@@ -102,3 +105,27 @@ told-is s r f = simp f
 
 pub keeps : (s : NumberRead) (reply : Bool) → Fit s → Fit (numberState s reply)
 keeps s reply f = rw (call-is s reply f) (fit-step s reply f)
+
+-- ---- number 2
+
+pub outside : (s : NumberRead) (reply : Bool) → inRange s ≡ false → (numberAnswer s reply ≡ refused 2 []) × (numberState s reply ≡ s)
+unfolding numberAnswer numberState
+outside s reply h = (simp h, simp h)
+
+-- the refusal of number 2 stops no read
+not-stopped : (refusal : Refusal) → isStop refusal ≡ true → numberOf refusal ≡ 2 → ⊥
+unfolding isStop
+not-stopped refusal h e = let z : false ≡ true = rw (state-range refusal e) at h in let y : _≡_ {A = ℕ} 0 1 = cc in omega arith
+
+shown-not-2 : (phase : Phase) (bytes values : List ℕ) → phaseInRange phase bytes ≡ true → answerTold (answerOf phase) bytes ≡ refused 2 values → ⊥
+unfolding phaseInRange answerOf
+shown-not-2 Begin bytes values h e = let z : _≡_ {A = ℕ} 0 1 = cc in omega arith
+shown-not-2 Presence bytes values h e = let z : _≡_ {A = ℕ} 0 1 = cc in omega arith
+shown-not-2 (Command i) bytes values h e = let z : _≡_ {A = ℕ} 0 1 = cc in omega arith
+shown-not-2 (Receive k left v) bytes values h e = let z : _≡_ {A = ℕ} 0 1 = cc in omega arith
+shown-not-2 Closing bytes values h e = let z : _≡_ {A = ℕ} 0 1 = cc in omega arith
+shown-not-2 Done bytes values h e = let z : _≡_ {A = ℕ} 0 1 = cc in omega arith
+shown-not-2 (Stopped refusal) bytes values h e = not-stopped refusal h cc
+
+pub never-2 : (s : NumberRead) (reply : Bool) (values : List ℕ) → inRange s ≡ true → numberAnswer s reply ≡ refused 2 values → ⊥
+never-2 s reply values h e = shown-not-2 (taken s reply .phase) (taken s reply .bytes) values (fit-step s reply h) (sym (told-is s reply h) ∙ e)
