@@ -4,7 +4,7 @@ use mathlib.Core.Bool.{Bool, true, false, _&&_}
 use mathlib.Core.List.{List, [], _∷_}
 use mathlib.Core.Path.{_≡_, refl, ap, _∙_}
 use Rattle.bus.specs.declared.Event.{Event}
-use Rattle.master.proofs.Only.{Each}
+use Rattle.master.proofs.Bounded.{Each}
 use Rattle.chip.specs.Run.{Chip, next, run}
 use Rattle.chip_laws.specs.Laws.{isPulse, isArmed}
 use Rattle.chip_laws.proofs.States.{image-kept}

@@ -5,16 +5,18 @@ use mathlib.Core.List.{List, [], _∷_, _++_, append-assoc}
 use mathlib.Core.Path.{_≡_, refl, sym, ap, ap₂, _∙_, subst, subst₂}
 use native.Mathlib.Omega.{arith}
 use native.Mathlib.Nat.{pow-succ'}
+use lib.Dec.{eqb}
 use lib.ListN.{length, getD, replicate-append-replicate}
+use borrow.Author.Tests.{eq-eqb, ne-eqb, eqb-true}
 use Rattle.terms.specs.Bits.{one, odd, bitsOf, bitsOfBytes}
 use Rattle.terms.specs.Told.{Told, refused, accepted}
-use Rattle.terms.proofs.Values.{valueOf, one-odd, value-bits, byte-below}
+use Rattle.terms.proofs.Values.{one-odd}
 use Rattle.bus.specs.declared.Event.{Event}
 use Rattle.bus.specs.declared.Event.the-variants.{Reset, Slot}
 use Rattle.bus.specs.Slots.{slots, ones, reading}
 use Rattle.master.specs.Joint.{lines}
 use Rattle.master.specs.Next.{Next, tells}
-use Rattle.master.specs.Script.{Script, stops, gives, sends, checkWith, reset, sendBits, readBits, readBytes, Played, playOn}
+use Rattle.master.specs.Script.{Script, stops, gives, sends, checkWith, check, reset, sendBits, readBits, readBytes, readCrc, Played, playOn}
 
 -- with these replies the script sends these events and comes to its end, which tells this and hands these bytes over
 pub data Runs : Script → List Bool → List Event → Told Next → List ℕ → Type 0 where
@@ -22,6 +24,14 @@ pub data Runs : Script → List Bool → List Event → Told Next → List ℕ �
   given : {values bytes : List ℕ} → Runs (gives values bytes) [] [] (accepted (tells values)) bytes
   sent : {e : Event} {on : Bool → Script} {r : Bool} {rs : List Bool} {es : List Event} {told : Told Next} {bytes : List ℕ} → Runs (on r) rs es told bytes
       → Runs (sends e on) (r ∷ rs) (e ∷ es) told bytes
+
+one-le : (b : Bool) → one b ≤ 1
+one-le true = omega arith
+one-le false = omega arith
+
+odd-of : (b : Bool) (v : ℕ) → odd (one b + 2 * v) ≡ b
+odd-of true v = eq-eqb ((1 + 2 * v) % 2) 1 (omega arith)
+odd-of false v = ne-eqb ((0 + 2 * v) % 2) 1 (λ e. omega arith)
 
 -- each a byte
 abbrev Small : List ℕ → Type 0
@@ -77,6 +87,10 @@ bytes-runs (suc k) (b ∷ bytes) on {rs} {es} {told} {handed} l small h =
     (read-runs 8 b (λ byte. readBytes k (λ more. on (byte ∷ more))) (small 0)
     (bytes-runs k bytes (λ more. on (b ∷ more)) (omega arith) (small-tail b bytes small) h))
 
+pub crc-runs : (crc : ℕ) (on : Script) {rs : List Bool} {es : List Event} {told : Told Next} {handed : List ℕ} → crc < 65536 → Runs on rs es told handed
+    → Runs (readCrc crc on) (bitsOf 16 crc ++ rs) (reading 16 ++ es) told handed
+crc-runs crc on l h = read-runs 16 crc (λ got. check (eqb got crc) 6 on) l (simp (eq-eqb crc crc refl) h)
+
 -- ---- taken apart
 
 -- the run goes by these replies and events, and then as on does
@@ -128,19 +142,34 @@ send-passed (b ∷ bits) on (sent {r = r} h) =
     let s = send-passed bits on h in
     record { ignored = r ∷ s .ignored; long = ap suc (s .long); goes = before r (Slot b) (s .goes) }
 
--- k bits were read, which write a number
+-- a number of k bits was read
 pub record Read (told : Told Next) (handed : List ℕ) (k : ℕ) (on : ℕ → Script) (rs : List Bool) (es : List Event) : Type 0 where
-  pub bits : List Bool
-  pub long : length bits ≡ k
-  pub goes : Goes told handed bits (reading k) (on (valueOf bits)) rs es
+  pub value : ℕ
+  pub small : value < 2 ^ k
+  pub goes : Goes told handed (bitsOf k value) (reading k) (on value) rs es
 
 pub read-passed : (k : ℕ) (on : ℕ → Script) {rs : List Bool} {es : List Event} {told : Told Next} {handed : List ℕ} → Runs (readBits k on) rs es told handed
     → Read told handed k on rs es
-unfolding readBits
-read-passed zero on {rs} {es} h = record { bits = []; long = refl; goes = record { later = rs; after = es; replies = refl; events = refl; runs = h } }
-read-passed (suc k) on (sent {r = r} h) =
+unfolding readBits bitsOf
+read-passed zero on {rs} {es} h = record { value = 0; small = omega arith; goes = record { later = rs; after = es; replies = refl; events = refl; runs = h } }
+read-passed (suc k) on {told = told} {handed = handed} (sent {r = r} {rs = rs} {es = es} h) =
     let s = read-passed k (λ rest. on (one r + 2 * rest)) h in
-    record { bits = r ∷ s .bits; long = ap suc (s .long); goes = before r (Slot true) (s .goes) }
+    let half : (one r + 2 * s .value) / 2 ≡ s .value = omega (arith, one-le r) in
+    record {
+      value = one r + 2 * s .value;
+      small = omega (arith, one-le r, s .small, pow-succ' 2 k);
+      goes = subst₂ (λ (b : Bool) (v : ℕ). Goes told handed (b ∷ bitsOf k v) (Slot true ∷ reading k) (on (one r + 2 * s .value)) (r ∷ rs) (Slot true ∷ es))
+          (sym (odd-of r (s .value))) (sym half) (before r (Slot true) (s .goes));
+    }
+
+-- a CRC that agreed
+pub crc-passed : (crc : ℕ) (on : Script) {rs : List Bool} {es : List Event} {told : Told Next} {handed : List ℕ} → (told ≡ refused 6 [] → ⊥) → Runs (readCrc crc on) rs es told handed
+    → Goes told handed (bitsOf 16 crc) (reading 16) on rs es
+crc-passed crc on {rs} {es} {told} {handed} other h =
+    let b = read-passed 16 (λ got. check (eqb got crc) 6 on) h in
+    let c = check-passed (eqb (b .value) crc) other (b .goes .runs) in
+    subst (λ (v : ℕ). Goes told handed (bitsOf 16 v) (reading 16) on rs es) (eqb-true (b .value) crc (c .0))
+    (record { later = b .goes .later; after = b .goes .after; replies = b .goes .replies; events = b .goes .events; runs = c .1 })
 
 -- so many bytes were read
 pub record ReadBytes (told : Told Next) (handed : List ℕ) (k : ℕ) (on : List ℕ → Script) (rs : List Bool) (es : List Event) : Type 0 where
@@ -156,17 +185,17 @@ bytes-passed zero on {rs} {es} h =
     record { bytes = []; long = refl; small = λ i. omega arith; goes = record { later = rs; after = es; replies = refl; events = refl; runs = h } }
 bytes-passed (suc k) on h =
     let b = read-passed 8 (λ byte. readBytes k (λ more. on (byte ∷ more))) h in
-    let v : ℕ = valueOf (b .bits) in
+    let v : ℕ = b .value in
     let s = bytes-passed k (λ more. on (v ∷ more)) (b .goes .runs) in
     record {
       bytes = v ∷ s .bytes;
       long = ap suc (s .long);
-      small = small-cons v (s .bytes) (byte-below (b .bits) (b .long)) (s .small);
+      small = small-cons v (s .bytes) (b .small) (s .small);
       goes = record {
         later = s .goes .later;
         after = s .goes .after;
         replies =
-            b .goes .replies ∙ ap₂ (λ (x y : List Bool). x ++ y) (value-bits (b .bits) 8 (b .long)) (s .goes .replies)
+            b .goes .replies ∙ ap (λ (l : List Bool). bitsOf 8 v ++ l) (s .goes .replies)
             ∙ sym (append-assoc (bitsOf 8 v) (bitsOfBytes (s .bytes)) (s .goes .later));
         events = b .goes .events ∙ ap (λ (l : List Event). reading 8 ++ l) (s .goes .events) ∙ reading-bytes k (s .goes .after);
         runs = s .goes .runs;

@@ -9,7 +9,7 @@ use lib.ListN.{length}
 use Rattle.terms.specs.Bits.{bitsOf, bitsOfBytes}
 use Rattle.terms.specs.Told.{Told, refused, accepted}
 use Rattle.bus.specs.declared.Event.{Event}
-use Rattle.bus.specs.declared.Event.the-variants.{Reset}
+use Rattle.bus.specs.declared.Event.the-variants.{Reset, Slot}
 use Rattle.bus.specs.Slots.{slots, ones, sending, reading}
 use Rattle.master.specs.Next.{Next, send, tells, outOf, eventsOf}
 use Rattle.master.specs.Joint.{Begins, Good}
@@ -18,7 +18,7 @@ use Rattle.master.proofs.Orders as orders
 use Rattle.master.proofs.Orders.{Keeps}
 use Rattle.master.proofs.Runs.{Runs, stopped, given, sent, send-runs, bytes-runs, check-passed, reset-passed, send-passed, bytes-passed, given-is, runs-on}
 use Rattle.master.proofs.Ended.{told-ended}
-use Rattle.master.proofs.Only as only
+use Rattle.master.proofs.Bounded.{Bounded, giving, bounded, check-bounded, reset-bounded, send-bounded, bytes-bounded}
 use Rattle.master.proofs.Scripts.{script-laws}
 use Rattle.number_read.specs.NumberRead.{begun, numberAnswer, numberState}
 use Rattle.chip.specs.Event.{awaitingMemory}
@@ -51,14 +51,16 @@ ordered replies =
     (orders.ordered (orders.reset-keeps (orders.bits-keeps (bitsOfBytes (0x33 ∷ [])) (orders.bytes-keeps 8
     (λ number. orders.check-keeps (crc8Agrees number) 14 [] (orders.check-keeps (familyAgrees number) 15 [] (orders.reset-keeps orders.giving)))))) replies)
 
+slot : (bit : Bool) → NoPulse (Slot bit)
+slot bit = refl
+
 pub image-stays : (n : ℕ) (c : Chip) (replies : List Bool) → run n c (eventsOf (answersTo begun replies)) .image ≡ c .image
 unfolding numberScript
 image-stays n c replies =
-    unpulsed n (eventsOf (answersTo begun replies)) c
-    (rw (plays replies)
-    (only.only NoPulse numberScript replies
-    (only.reset-only NoPulse _ refl (only.send-only NoPulse (λ bit. refl) (bitsOfBytes (0x33 ∷ [])) _ (only.bytes-only NoPulse (λ bit. refl) 8 judging
-    (λ number. only.check-only NoPulse (crc8Agrees number) 14 [] _ (only.check-only NoPulse (familyAgrees number) 15 [] _ (only.reset-only NoPulse _ refl tt))))))))
+    let h : Bounded NoPulse 74 numberScript =
+    reset-bounded refl (send-bounded slot (bitsOfBytes (0x33 ∷ [])) 73 (omega (arith, bytes-length (0x33 ∷ []))) (bytes-bounded slot 8 judging 65 (omega arith)
+    (λ number. check-bounded (crc8Agrees number) 14 [] (check-bounded (familyAgrees number) 15 [] (reset-bounded refl (giving {k = 0})))))) in
+    unpulsed n (eventsOf (answersTo begun replies)) c (rw (plays replies) (bounded replies h .1))
 
 -- ---- a number that was told
 

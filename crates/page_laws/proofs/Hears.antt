@@ -34,8 +34,8 @@ use Rattle.chip_laws.specs.Session.{Ready, _at_, Goes, skip}
 use Rattle.chip_laws.proofs.Runs.{_then_}
 use Rattle.chip_laws.proofs.Slots.{lines-read, bits-length, bytes-length, ready, over-memory}
 use Rattle.chip_laws.proofs.Sessions.{reset, up-to-address}
-use Rattle.page_read.specs.PageRead.{addressLow, addressHigh, redirectionCrc, dataCrc}
 use Rattle.page_laws.specs.Heard.{visitEvents, visitReplies, pageEvents, pageReplies}
+use Rattle.page_laws.specs.Script.{readCommand, crcWord}
 
 -- ---- what is sent, cut in two
 
@@ -64,19 +64,19 @@ module _ (n : ℕ) (img : List ℕ) (sized : length img ≡ imageSize n) where
     byte = redirectionOf n img p
 
     abbrev visitBits : List Bool
-    visitBits = bitsOf 8 byte ++ bitsOf 16 (redirectionCrc p byte)
+    visitBits = bitsOf 8 byte ++ bitsOf 16 (crcWord (readCommand p ++ (byte ∷ [])))
 
     abbrev dataBits : List Bool
     dataBits = bitsOfBytes (pageBytes img p)
 
     abbrev crcBits : List Bool
-    crcBits = bitsOf 16 (dataCrc (pageBytes img p))
+    crcBits = bitsOf 16 (crcWord (pageBytes img p))
 
     abbrev later : List Bool
     later = extendedPages n img (p + 1) (n - (p + 1))
 
     stream-is : extendedStream n img (32 * p) ≡ visitBits ++ (dataBits ++ (crcBits ++ later))
-    unfolding redirectionCrc dataCrc addressLow addressHigh pageBytes
+    unfolding pageBytes
     stream-is =
         let e : 32 * p / 32 ≡ p = omega arith in
         let f : 32 - 32 * p % 32 ≡ 32 = omega arith in
@@ -87,10 +87,10 @@ module _ (n : ℕ) (img : List ℕ) (sized : length img ≡ imageSize n) where
 
 -- what the chip echoes of the command
 abbrev pub echoed : ℕ → List Bool
-echoed p = bitsOfBytes (0xCC ∷ 0xA5 ∷ addressLow p ∷ addressHigh p ∷ [])
+echoed p = bitsOfBytes (0xCC ∷ readCommand p)
 
 pub echoed-length : (p : ℕ) → length (echoed p) ≡ 32
-echoed-length p = bytes-length (0xCC ∷ 0xA5 ∷ addressLow p ∷ addressHigh p ∷ [])
+echoed-length p = bytes-length (0xCC ∷ readCommand p)
 
 pub record Visit (n : ℕ) (c : Chip) (p : ℕ) : Type 0 where
   pub after : MemoryStage
@@ -105,7 +105,7 @@ module _ (n : ℕ) (whole : n % 8 ≡ 0) (low : n ≤ 256) where
 
   command-in : (c : Chip) (p : ℕ) → p < n → Ready n c
       → Goes n c (Reset ∷ slots (echoed p)) (false ∷ echoed p) (c at Memory (startExtended n (32 * p) (crc16Of (header 0xA5 (32 * p))) (c .image)))
-  unfolding bitsOfBytes addressLow addressHigh memoryCommand addressed
+  unfolding bitsOfBytes memoryCommand addressed
   command-in c p below ok =
       let g : 32 * p / 256 % 256 ≡ 32 * p / 256 = omega arith in
       let own : keptAddress n (32 * p) ≡ 32 * p = address-laws n low .own Data (32 * p) (unfold limitOf in omega arith) in
@@ -121,14 +121,14 @@ module _ (n : ℕ) (whole : n % 8 ≡ 0) (low : n ≤ 256) where
       let d = halves n img (crcBits n img (ok .sized) p below low) _ (b .back) in
       let command = command-in c p below ok in
       let r : ℕ = redirectionOf n img p in
-      let wide : length (bitsOf 8 r ++ bitsOf 16 (redirectionCrc p r)) ≡ 24 =
-      omega (arith, length-append (bitsOf 8 r) (bitsOf 16 (redirectionCrc p r)), bits-length 8 r, bits-length 16 (redirectionCrc p r)) in
+      let wide : length (bitsOf 8 r ++ bitsOf 16 (crcWord (readCommand p ++ (r ∷ [])))) ≡ 24 =
+      omega (arith, length-append (bitsOf 8 r) (bitsOf 16 (crcWord (readCommand p ++ (r ∷ [])))), bits-length 8 r, bits-length 16 (crcWord (readCommand p ++ (r ∷ [])))) in
       let visit = command then read-out c 24 (a .front) wide (ready n whole ok command) in
       let ok₁ = ready n whole ok visit in
       let size : length (bitsOfBytes (pageBytes img p)) ≡ 256 = omega (arith, bytes-length (pageBytes img p), page-length n img p (ok .sized) below) in
       let bytes = read-out c 256 (b .front) size ok₁ in
       let ok₂ = ready n whole ok₁ bytes in
-      let crc = read-out c 16 (d .front) (bits-length 16 (dataCrc (pageBytes img p))) ok₂ in
+      let crc = read-out c 16 (d .front) (bits-length 16 (crcWord (pageBytes img p))) ok₂ in
       record {
         after = a .middle;
         visit = visit;

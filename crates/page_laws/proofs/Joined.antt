@@ -1,114 +1,131 @@
--- Joined to a chip, the page read tells the verdict of the walk over the chip's image, and the image stays.
+-- Joined to a chip, the script's run is that of the walk over the chip's image.
 use Prim.Native.Nat.{ℕ, zero, suc, _+_, _-_, _*_, _%_, _<_, _≤_}
-use mathlib.Core.Path.{_≡_, refl, sym, ap, ap₂, _∙_, subst}
-use mathlib.Core.Bool.{Bool, false}
-use mathlib.Core.List.{List, [], _∷_, _++_}
+use mathlib.Core.Path.{_≡_, refl, sym, ap, _∙_, subst, subst₂}
+use mathlib.Core.Bool.{Bool, true, false, cond}
+use mathlib.Core.List.{List, [], _∷_, _++_, append-nil}
 use native.Mathlib.Omega.{arith}
-use lib.ListN.{length, length-append}
-use Rattle.terms.specs.Bits.{bitsOf, bitsOfBytes}
+use lib.Dec.{eqb, ltb}
+use lib.ListN.{length, take, drop}
+use lib.Seq.{getD-drop}
+use borrow.Author.Tests.{lt-ltb, eqb-true, ltb-true}
 use Rattle.terms.specs.Told.{Told}
 use Rattle.terms.specs.declared.verdict.Verdict.{Verdict}
-use Rattle.terms.specs.declared.verdict.Verdict.the-variants.{Final, Loop, Outside}
+use Rattle.terms.specs.declared.verdict.Verdict.the-variants.{Loop, Outside}
 use Rattle.bus.specs.declared.Event.{Event}
-use Rattle.chain.specs.Walk.{walkOf}
+use Rattle.memory.specs.Image.{redirectionOf, pageBytes}
+use Rattle.memory.proofs.Pages.{page-length}
+use Rattle.chain.specs.Walk.{namedBy, final, walkFrom, walkOf}
 use Rattle.master.specs.Next.{Next, outOf}
-use Rattle.master.specs.Joint.{Out, quiet, Joined, shown}
-use Rattle.master.proofs.Joins as joins
-use Rattle.page_read.specs.PageRead.{redirectionCrc, dataCrc, begun}
-use Rattle.chip.specs.Run.{Chip, next, lineAt}
-use Rattle.chip_laws.specs.Session.{Ready, Bytes, _at_}
+use Rattle.master.specs.Joint.{Good}
+use Rattle.master.specs.Script.{Script, stops, checkWith, Played, play, playOn, telling, leaving}
+use Rattle.master.proofs.Runs.{Runs, stopped, runs-on}
+use Rattle.master.proofs.Scripts.{good-plays, good-leaves}
+use Rattle.chip.specs.declared.event.Stage.{Stage}
+use Rattle.chip.specs.declared.event.Stage.the-variants.{Memory}
+use Rattle.chip.specs.Event.{awaitingRom}
+use Rattle.chip.specs.Run.{Chip, next, run, answers, lineAt}
+use Rattle.chip_laws.specs.Session.{Ready, Bytes, _at_, Goes}
 use Rattle.chip_laws.proofs.Bus.{bus-hears}
-use Rattle.chip_laws.proofs.Slots.{bits-length, bytes-length}
-use Rattle.page_read.specs.declared.Phase.the-variants.{Presence}
-use Rattle.page_laws.specs.Heard.{visitReplies, pageReplies, Heard, at-final, at-outside, at-loop, at-next}
-use Rattle.page_laws.specs.Laws.{Held, told, called, verdictTold, joints, opened, Tells, mostEvents}
-use Rattle.page_laws.proofs.Steps.{held, step, show, sent, standing, cleared, Fit, call-is, told-is, fit-step, starts-so, begun-fit, first-step}
-use Rattle.page_laws.proofs.Course.{heard}
-use Rattle.page_laws.proofs.Reading.{Reading, reading}
+use Rattle.chip_laws.proofs.Runs.{_then_}
+use Rattle.chip_laws.proofs.Slots.{ready}
+use Rattle.page_laws.specs.Script.{visitScript, finalScript, byByte, walkScript, pageScript}
+use Rattle.page_laws.specs.Heard.{visitEvents, visitReplies, pageEvents, pageReplies, eventsFrom, eventsFor}
+use Rattle.page_laws.specs.Laws.{answersTo, after, started, verdictTold, verdictBytes, Joined}
+use Rattle.page_laws.proofs.Blocks.{visit-runs, final-runs}
+use Rattle.page_laws.proofs.Hears.{echoed, echoed-length, Visit, visits}
+use Rattle.page_laws.proofs.Plays.{plays, leaves}
 
--- ---- how many replies there are
+-- the bytes of a part are bytes
+part-small : (k : ℕ) (l : List ℕ) → Bytes l → Bytes (take k l)
+part-small zero l small i = omega arith
+part-small (suc k) [] small i = small i
+part-small (suc k) (x ∷ l) small zero = small 0
+part-small (suc k) (x ∷ l) small (suc i) = part-small k l (λ j. small (suc j)) i
 
-visit-length : (ignored : List Bool) (p b : ℕ) → length ignored ≡ 32 → length (visitReplies ignored p b) ≡ 57
-visit-length ignored p b l =
-    omega (
-      arith,
-      length-append ignored (bitsOf 8 b ++ bitsOf 16 (redirectionCrc p b)),
-      length-append (bitsOf 8 b) (bitsOf 16 (redirectionCrc p b)),
-      bits-length 8 b,
-      bits-length 16 (redirectionCrc p b),
-    )
+page-small : (img : List ℕ) (p : ℕ) → Bytes img → Bytes (pageBytes img p)
+unfolding pageBytes
+page-small img p small = part-small 32 (drop (32 * p) img) (λ i. rw (getD-drop (32 * p) img i 0) (small (32 * p + i)))
 
-page-length : (bytes : List ℕ) → length bytes ≡ 32 → length (pageReplies bytes) ≡ 273
-page-length bytes l =
-    omega (
-      arith,
-      length-append (bitsOfBytes bytes) (bitsOf 16 (dataCrc bytes) ++ (false ∷ [])),
-      length-append (bitsOf 16 (dataCrc bytes)) (false ∷ []),
-      bytes-length bytes,
-      bits-length 16 (dataCrc bytes),
-    )
-
-heard-length : {n p hops : ℕ} {rs : List Bool} {es : List Event} {v : Verdict} {bytes : List ℕ} → Heard n p hops rs es v bytes → hops < n
-    → length rs + 57 * hops ≤ mostEvents n
-heard-length {p = p} (at-final ignored bytes i l small) m =
-    omega (arith, length-append (visitReplies ignored p 255) (pageReplies bytes), visit-length ignored p 255 i, page-length bytes l)
-heard-length {p = p} (at-outside ignored b i r l) m = omega (arith, visit-length ignored p b i)
-heard-length {p = p} (at-loop ignored b i r l k) m = omega (arith, visit-length ignored p b i)
-heard-length {p = p} (at-next {replies = qs} ignored b i r l k rest) m =
-    omega (arith, length-append (visitReplies ignored p b) qs, visit-length ignored p b i, heard-length rest k)
-
--- a verdict hands nothing to the bus
-no-event : (v : Verdict) → outOf (verdictTold v) ≡ quiet
-no-event (Final p hops) = refl
-no-event Loop = refl
-no-event (Outside k) = refl
+-- the chip draws replies with which the script sends these events, tells the verdict and hands its bytes over
+record Reads (n : ℕ) (c : Chip) (script : Script) (events : List Event) (v : Verdict) : Type 0 where
+  replies : List Bool
+  last : Stage
+  runs : Runs script replies events (verdictTold v) (verdictBytes v (c .image))
+  goes : Goes n c events replies (c at last)
 
 module _ (n : ℕ) (whole : n % 8 ≡ 0) (low : n ≤ 256) where
-  -- the master in the state that it shows, and its event has reached the chip
-  abbrev showing : Held → Chip → Bool → Joined Held Chip (Told Next)
-  showing h c r = shown (next n) (lineAt n) (called n) (told n) outOf (show h) h c r
+  module _ (c : Chip) (ok : Ready n c) (small : Bytes (c .image)) (p hops : ℕ) (below : p < n) where
+    abbrev byte : ℕ
+    byte = redirectionOf n (c .image) p
 
-  module _ (p : ℕ) (lent : List ℕ) (below : p < n) (room : length lent ≡ 32) where
-    abbrev begin : Held
-    begin = held (standing Presence p 0 cleared) lent
+    byte-small : byte < 256
+    unfolding redirectionOf
+    byte-small = small _
 
-    begin-fit : Fit n begin
-    begin-fit = subst (Fit n) (first-step n p lent false) (fit-step n (held (begun p) lent) false (begun-fit n p lent below room))
+    v : Visit n c p
+    v = visits n whole low c p below ok
 
-    begins : (c : Chip) (first : Bool)
-        → shown (next n) (lineAt n) (called n) (told n) outOf (told n (held (begun p) lent) first) (called n (held (begun p) lent) first) c first ≡ showing begin c first
-    begins c first =
-        let f = begun-fit n p lent below room in
-        ap₂ (λ (x : Told Next) (h : Held). shown (next n) (lineAt n) (called n) (told n) outOf x h c first) (told-is n (held (begun p) lent) first f) (call-is n (held (begun p) lent) first f)
-        ∙ ap (λ (h : Held). showing h c first) (first-step n p lent first)
-
-    -- from the first reset on, with enough calls
-    onwards : (c : Chip) (m : ℕ) (first : Bool) (v : Verdict) → mostEvents n ≤ m → Reading n c p 0 v → Tells (joints n m (showing begin c first)) v (c .image) lent
-    onwards c m first v enough r =
-        let e = heard n cleared lent refl room (r .heard) in
-        let k : ℕ = m - length (r .replies) in
-        let l : m ≡ length (r .replies) + k = omega (arith, heard-length (r .heard) (omega arith)) in
-        let j = joins.joins (next n) (lineAt n) (called n) (told n) outOf (step n) show sent (λ x. refl) (Fit n) (fit-step n) (call-is n) (told-is n) first begin-fit (e .course) (bus-hears n (r .goes)) in
-        let all =
-        ap (λ (i : ℕ). joints n i (showing begin c first)) l
-        ∙ joins.joints-add (next n) (lineAt n) (called n) (told n) outOf (step n) show sent (λ x. refl) (Fit n) (fit-step n) (call-is n) (told-is n) (length (r .replies)) k (showing begin c first)
-        ∙ ap (joints n k) (j .path)
-        ∙ joins.rests (next n) (lineAt n) (called n) (told n) outOf (step n) show sent (λ x. refl) (Fit n) (fit-step n) (call-is n) (told-is n) k (e .last) (c at r .last) (j .reply) (j .fit)
-        (ap outOf (e .told) ∙ no-event v) (e .stays) in
-        subst (λ (x : Joined Held Chip (Told Next)). Tells x v (c .image) lent) (sym all)
-        (record {
-          verdict = e .told;
-          buffer = e .buffer ∙ r .page lent;
-          image = reached (e .last) (ap outOf (e .told) ∙ no-event v) (c at r .last);
-        })
+    -- one page, where what follows is known
+    visiting : (on : ℕ → Script) (more : List Event) (verdict : Verdict)
+        → (namedBy byte < n → Reads n (c at Memory (v .after)) (on (namedBy byte)) more verdict)
+        → Reads n c (visitScript p (byByte n p hops on)) (visitEvents p ++ cond (eqb byte 255) pageEvents (cond (ltb (namedBy byte) n) more []))
+        (cond (eqb byte 255) (final p hops) (cond (ltb (namedBy byte) n) verdict (Outside (namedBy byte))))
+    visiting on more verdict rest = go (eqb byte 255) (ltb (namedBy byte) n) refl refl
       where
-        reached : (h : Held) → outOf (show h) ≡ quiet → (d : Chip) → Rattle.master.specs.Joint.reached (next n) (lineAt n) (outOf (show h)) d .image ≡ d .image
-        reached h q d = ap (λ (o : Out Event). Rattle.master.specs.Joint.reached (next n) (lineAt n) o d .image) q
+        go : (x y : Bool) → eqb byte 255 ≡ x → ltb (namedBy byte) n ≡ y
+            → Reads n c (visitScript p (byByte n p hops on)) (visitEvents p ++ cond x pageEvents (cond y more [])) (cond x (final p hops) (cond y verdict (Outside (namedBy byte))))
+        go true y e f =
+            record {
+              replies = visitReplies (echoed p) p byte ++ pageReplies (pageBytes (c .image) p);
+              last = awaitingRom;
+              runs = visit-runs p byte (echoed p) (byByte n p hops on) (echoed-length p) byte-small
+                  (simp e (final-runs p hops (pageBytes (c .image) p) (page-length n (c .image) p (ok .sized) below) (page-small (c .image) p small)));
+              goes = v .visit then v .page;
+            }
+        go false true e f =
+            let r = rest (ltb-true (namedBy byte) n f) in
+            record {
+              replies = visitReplies (echoed p) p byte ++ r .replies;
+              last = r .last;
+              runs = visit-runs p byte (echoed p) (byByte n p hops on) (echoed-length p) byte-small (simp (e, f) (r .runs));
+              goes = v .visit then r .goes;
+            }
+        go false false e f =
+            record {
+              replies = visitReplies (echoed p) p byte ++ [];
+              last = Memory (v .after);
+              runs = visit-runs p byte (echoed p) (byByte n p hops on) (echoed-length p) byte-small (simp (e, f) stopped);
+              goes = subst₂ (λ (es : List Event) (rs : List Bool). Goes n c es rs (c at Memory (v .after))) (sym (append-nil (visitEvents p))) (sym (append-nil (visitReplies (echoed p) p byte))) (v .visit);
+            }
 
-  pub joined : (c : Chip) (p k : ℕ) (lent : List ℕ) (first : Bool) (none : Told Next) → Ready n c → Bytes (c .image) → p < n → length lent ≡ 32 → mostEvents n < k
-      → Tells (joints n k (opened n p c lent first none)) (walkOf n (c .image) p) (c .image) lent
-  joined c p zero lent first none ok small below room enough = absurd (omega arith)
-  joined c p (suc m) lent first none ok small below room enough =
-      rw (starts-so n p below)
-      (rw (begins p lent below room c first)
-      (onwards p lent below room c m first (walkOf n (c .image) p) (omega arith) (reading n whole low c ok small p below)))
+  reads-from : (more : ℕ) (c : Chip) → Ready n c → Bytes (c .image) → (p hops : ℕ) → p < n
+      → Reads n c (walkScript n more p hops) (eventsFrom (redirectionOf n (c .image)) n (suc more) p) (walkFrom (redirectionOf n (c .image)) n (suc more) p hops)
+  unfolding walkScript eventsFrom walkFrom
+  reads-from zero c ok small p hops below =
+      visiting c ok small p hops below (λ named. stops 4 []) [] Loop (λ inside. record { replies = []; last = Memory (v c ok small p hops below .after); runs = stopped; goes = unfold answers run in record { told = refl; there = refl } })
+  reads-from (suc more) c ok small p hops below =
+      visiting c ok small p hops below (λ named. walkScript n more named (hops + 1)) _ _
+      (λ inside. reads-from more (c at Memory (v c ok small p hops below .after)) (ready n whole ok (v c ok small p hops below .visit)) small (namedBy (redirectionOf n (c .image) p)) (hops + 1) inside)
+
+  -- the script on the chip
+  on-chip : 0 < n → (c : Chip) → Ready n c → Bytes (c .image) → (p : ℕ) → p < n
+      → playOn (next n) (lineAt n) (pageScript n p) c
+      ≡ record { events = eventsFor n (c .image) p; told = verdictTold (walkOf n (c .image) p); bytes = verdictBytes (walkOf n (c .image) p) (c .image) }
+  unfolding pageScript walkOf
+  on-chip some c ok small p below =
+      let e : suc (n - 1) ≡ n = omega arith in
+      let r = reads-from (n - 1) c ok small p 0 below in
+      simp (lt-ltb p n below) (rw e at (runs-on (next n) (lineAt n) c (r .runs) (bus-hears n (r .goes) .replies)))
+
+  pub joined : 0 < n → (c : Chip) (p : ℕ) (lent : List ℕ) (replies : List Bool) → Ready n c → Bytes (c .image) → p < n → length lent ≡ 32
+      → Good (next n) (lineAt n) outOf c (answersTo n (started n p lent) replies) replies → Joined n c p lent replies
+  joined some c p lent replies ok small below room good =
+      let script = pageScript n p in
+      let played = plays n some p lent room replies in
+      let drawn = subst (λ (l : List (Told Next)). Good (next n) (lineAt n) outOf c l replies) played good in
+      let does = on-chip some c ok small p below in
+      record {
+        answers = played ∙ good-plays (next n) (lineAt n) script c replies drawn ∙ ap (λ (x : Played). telling (x .events) (x .told) (length replies)) does;
+        buffer = leaves n some p lent room replies ∙ good-leaves (next n) (lineAt n) script c replies lent drawn
+            ∙ ap (λ (x : Played). leaving (x .events) (x .bytes) (length replies) lent) does;
+      }

@@ -1,12 +1,9 @@
-pub mod Agrees
-pub mod Course
-pub mod Cuts
+pub mod Blocks
 pub mod Demand
+pub mod Derived
 pub mod Ds2505
 pub mod Hears
 pub mod Joined
-pub mod Parse
+pub mod Plays
 pub mod Ranges
-pub mod Reading
-pub mod Steps
 pub mod Values

@@ -2,20 +2,24 @@
 use Prim.Native.Nat.{ℕ, _+_, _-_, _/_, _<_, _≤_}
 use mathlib.Core.Path.{_≡_, refl, sym, ap, _∙_}
 use mathlib.Core.Bool.{Bool, true, false, cond, not}
-use mathlib.Core.List.{List}
+use mathlib.Core.List.{List, []}
 use native.Mathlib.Omega.{arith}
 use lib.Dec.{eqb, ltb}
 use lib.ListN.{length, set, length-set}
 use borrow.Author.Tests.{lt-ltb, le-ltb, ltb-true, ltb-false}
+use Rattle.terms.specs.Refusal.{numberOf}
+use Rattle.terms.specs.Told.{refused, judge}
+use Rattle.terms.specs.declared.address.Page.{Page}
 use Rattle.terms.specs.declared.refusal.Refusal.{Refusal}
 use Rattle.memory.specs.Layout.{isPage}
 use Rattle.chain.specs.Walk.{namedBy}
+use Rattle.master.proofs.Two.{state-range}
 use Rattle.page_read.specs.declared.Part.{Part}
 use Rattle.page_read.specs.declared.Part.the-variants.{Redirection, RedirectionCrc, Data, DataCrc}
 use Rattle.page_read.specs.declared.Phase.{Phase}
 use Rattle.page_read.specs.declared.Phase.the-variants.{Begin, Presence, Command, Receive, Closing, Done, Stopped}
 use Rattle.page_read.specs.declared.PageRead.{PageRead}
-use Rattle.page_read.specs.PageRead.{redirectionCrc, dataCrc, collect, turned, stopped, presence, afterCommand, hopped, onward, followed, judged, nextData, storedAt, stored, dataJudged, partIn, bitIn, closed, takenAt, taken, partInRange, widthOf, receiveInRange, isStop, phaseInRange, inRange, begun, refusedStart, startState, readState}
+use Rattle.page_read.specs.PageRead.{redirectionCrc, dataCrc, collect, turned, stopped, presence, afterCommand, hopped, onward, followed, judged, nextData, storedAt, stored, dataJudged, partIn, bitIn, closed, takenAt, taken, partInRange, widthOf, receiveInRange, isStop, phaseInRange, inRange, begun, refusedStart, startState, answerOf, readTold, toldOf, readAnswer, readState, readBuffer}
 
 -- within the ranges, with so many bytes
 pub record Within (n size : ℕ) (s : PageRead) : Type 0 where
@@ -166,3 +170,36 @@ module _ (n : ℕ) where
   starts l p =
       either (λ x. inRange n x ≡ true) (isPage n p) _ _ (λ t. in-range n _ (begun-in p (page-true n p t)))
       (λ _. in-range n {size = 32} refusedStart (unfold refusedStart phaseInRange isStop in record { page = l; hops = l; phase = refl; sized = refl }))
+
+  -- ---- number 2
+
+  pub outside : (s : PageRead) (reply : Bool) (buffer : List ℕ) → inRange n s ≡ false
+      → (readAnswer n s reply buffer ≡ refused 2 []) × (readState n s reply buffer ≡ s) × (readBuffer n s reply buffer ≡ buffer)
+  unfolding readAnswer readState readBuffer
+  outside s reply buffer h = (simp h, simp h, simp h)
+
+  -- the refusal of number 2 stops no read
+  not-stopped : (refusal : Refusal) → isStop n refusal ≡ true → numberOf refusal ≡ 2 → ⊥
+  unfolding isStop
+  not-stopped refusal h e = let z : false ≡ true = rw (state-range refusal e) at h in let y : _≡_ {A = ℕ} 0 1 = cc in omega arith
+
+  told-not-2 : (phase : Phase) (page : Page) (hops : ℕ) (values : List ℕ) → phaseInRange n phase ≡ true → readTold (answerOf phase page hops) ≡ refused 2 values → ⊥
+  unfolding phaseInRange answerOf
+  told-not-2 Begin page hops values h e = let z : _≡_ {A = ℕ} 0 1 = cc in omega arith
+  told-not-2 Presence page hops values h e = let z : _≡_ {A = ℕ} 0 1 = cc in omega arith
+  told-not-2 (Command i) page hops values h e = let z : _≡_ {A = ℕ} 0 1 = cc in omega arith
+  told-not-2 (Receive part left v) page hops values h e = let z : _≡_ {A = ℕ} 0 1 = cc in omega arith
+  told-not-2 Closing page hops values h e = let z : _≡_ {A = ℕ} 0 1 = cc in omega arith
+  told-not-2 Done page hops values h e = let z : _≡_ {A = ℕ} 0 1 = cc in omega arith
+  told-not-2 (Stopped refusal) page hops values h e = not-stopped refusal h cc
+
+  pub never-2 : (s : PageRead) (reply : Bool) (buffer values : List ℕ) → inRange n s ≡ true → readAnswer n s reply buffer ≡ refused 2 values → ⊥
+  unfolding readAnswer
+  never-2 s reply buffer values h e = go (eqb (length buffer) 32) (simp h at e)
+    where
+      t : PageRead
+      t = taken n s reply
+
+      go : (room : Bool) → judge room 10 (toldOf t) ≡ refused 2 values → ⊥
+      go true e = told-not-2 (t .phase) (t .page) (t .hops) values (kept s reply (within n s h) .phase) e
+      go false e = let z : _≡_ {A = ℕ} 10 2 = cc in omega arith

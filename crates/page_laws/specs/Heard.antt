@@ -1,8 +1,9 @@
 -- The replies with which a page read ends in a verdict, and the events that it then sends, over the page count n.
-use Prim.Native.Nat.{ℕ, _+_, _<_, _≤_}
-use mathlib.Core.Bool.{Bool, false}
+use Prim.Native.Nat.{ℕ, zero, suc, _+_, _<_, _≤_}
+use mathlib.Core.Bool.{Bool, false, cond}
 use mathlib.Core.Path.{_≡_}
 use mathlib.Core.List.{List, [], _∷_, _++_}
+use lib.Dec.{eqb, ltb}
 use lib.ListN.{length}
 use Rattle.terms.specs.Bits.{bitsOf, bitsOfBytes}
 use Rattle.terms.specs.declared.verdict.Verdict.{Verdict}
@@ -10,18 +11,19 @@ use Rattle.terms.specs.declared.verdict.Verdict.the-variants.{Loop, Outside}
 use Rattle.bus.specs.declared.Event.{Event}
 use Rattle.bus.specs.declared.Event.the-variants.{Reset}
 use Rattle.bus.specs.Slots.{sending, reading}
+use Rattle.memory.specs.Image.{redirectionOf}
 use Rattle.chain.specs.Walk.{namedBy, final}
-use Rattle.page_read.specs.PageRead.{addressLow, addressHigh, redirectionCrc, dataCrc}
 use Rattle.chip_laws.specs.Session.{Bytes}
+use Rattle.page_laws.specs.Script.{readCommand, crcWord}
 
 -- The visit of page p, 57 events: reset, Skip, Extended Read, the address 32p, eight read slots for the redirection byte and sixteen
 -- for its CRC.
 abbrev pub visitEvents : ℕ → List Event
-visitEvents p = Reset ∷ (sending (0xCC ∷ 0xA5 ∷ addressLow p ∷ addressHigh p ∷ []) ++ (reading 8 ++ reading 16))
+visitEvents p = Reset ∷ (sending (0xCC ∷ readCommand p) ++ (reading 8 ++ reading 16))
 
 -- Its replies: presence, anything while the command goes out, the redirection byte b, and a CRC that agrees with command, address and b.
 abbrev pub visitReplies : List Bool → ℕ → ℕ → List Bool
-visitReplies ignored p b = false ∷ (ignored ++ (bitsOf 8 b ++ bitsOf 16 (redirectionCrc p b)))
+visitReplies ignored p b = false ∷ (ignored ++ (bitsOf 8 b ++ bitsOf 16 (crcWord (readCommand p ++ (b ∷ [])))))
 
 -- the data, their CRC and the closing reset: 272 events and one
 abbrev pub pageEvents : List Event
@@ -29,7 +31,7 @@ pageEvents = reading 256 ++ (reading 16 ++ (Reset ∷ []))
 
 -- their replies: the bytes, a CRC that agrees with them alone, presence
 abbrev pub pageReplies : List ℕ → List Bool
-pageReplies bytes = bitsOfBytes bytes ++ (bitsOf 16 (dataCrc bytes) ++ (false ∷ []))
+pageReplies bytes = bitsOfBytes bytes ++ (bitsOf 16 (crcWord bytes) ++ (false ∷ []))
 
 -- a redirection byte that is not FFh
 pub record Redirects (b : ℕ) : Type 0 where
@@ -49,17 +51,15 @@ pub data Heard (n : ℕ) : ℕ → ℕ → List Bool → List Event → Verdict 
       → length ignored ≡ 32 → Redirects b → namedBy b < n → hops + 1 < n → Heard n (namedBy b) (hops + 1) replies events v bytes
       → Heard n p hops (visitReplies ignored p b ++ replies) (visitEvents p ++ events) v bytes
 
--- a list begins with another
-pub record Begins {A : Type 0} (whole part : List A) : Type 0 where
-  pub rest : List A
-  pub is : whole ≡ part ++ rest
+-- ---- on a chip with an image
 
--- The events of a run, ended or not, that the replies so far determine: the first of a visit; or a whole visit whose redirection byte was
--- FFh, and the first of the page's events; or a whole visit whose redirection byte named a page of the chip, and the events from there on.
-pub data Sent (n : ℕ) : ℕ → ℕ → List Bool → List Event → Type 0 where
-  visiting : {p hops : ℕ} {replies : List Bool} {events : List Event} → Begins (visitEvents p) events → Sent n p hops replies events
-  reading-page : {p hops : ℕ} {events : List Event} (ignored replies : List Bool) → length ignored ≡ 32 → Begins pageEvents events
-      → Sent n p hops (visitReplies ignored p 255 ++ replies) (visitEvents p ++ events)
-  onward : {p hops : ℕ} {replies : List Bool} {events : List Event} (ignored : List Bool) (b : ℕ) → length ignored ≡ 32
-      → Redirects b → namedBy b < n → hops + 1 < n → Sent n (namedBy b) (hops + 1) replies events
-      → Sent n p hops (visitReplies ignored p b ++ replies) (visitEvents p ++ events)
+-- The events of a read from page p on, with k redirection bytes left to read: a visit for each page of the chain, and a valid page's data.
+-- Here b is the redirection byte of each page.
+unfoldable pub eventsFrom : (ℕ → ℕ) → ℕ → ℕ → ℕ → List Event
+eventsFrom b n zero p = []
+eventsFrom b n (suc k) p =
+    let onward : List Event = eventsFrom b n k (namedBy (b p)) in
+    visitEvents p ++ cond (eqb (b p) 255) pageEvents (cond (ltb (namedBy (b p)) n) onward [])
+
+abbrev pub eventsFor : ℕ → List ℕ → ℕ → List Event
+eventsFor n img p = eventsFrom (redirectionOf n img) n n p

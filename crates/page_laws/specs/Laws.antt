@@ -1,8 +1,9 @@
 -- The page read over whole runs: whatever the replies, and joined to a chip. n is the page count.
 use Prim.Native.Nat.{ℕ, _+_, _*_, _<_, _≤_}
 use mathlib.Core.Path.{_≡_}
-use mathlib.Core.Bool.{Bool, true}
+use mathlib.Core.Bool.{Bool, true, false, cond}
 use mathlib.Core.List.{List, [], _∷_, _++_}
+use lib.Dec.{eqb}
 use lib.ListN.{length}
 use Rattle.terms.specs.Told.{Told, refused, accepted}
 use Rattle.terms.specs.declared.verdict.Verdict.{Verdict}
@@ -11,17 +12,19 @@ use Rattle.bus.specs.declared.Event.{Event}
 use Rattle.memory.specs.Image.{pageBytes}
 use Rattle.chain.specs.Walk.{walkOf}
 use Rattle.master.specs.Next.{Next, tells, outOf, eventsOf}
-use Rattle.master.specs.Joint.{Joined}
+use Rattle.master.specs.Joint.{Good}
 use Rattle.master.specs.Joint as joint
+use Rattle.master.specs.Script.{Script, toldAt, handedAt, leftIn, follow, play, leftBy, telling, leaving, playedTelling}
 use Rattle.page_read.specs.declared.PageRead.{PageRead}
 use Rattle.page_read.specs.PageRead.{inRange, startState, readAnswer, readState, readBuffer}
-use Rattle.chip.specs.Run.{Chip, next, lineAt}
+use Rattle.chip.specs.Run.{Chip, next, run, lineAt}
 use Rattle.chip_laws.specs.Session.{Ready, Bytes}
-use Rattle.page_laws.specs.Heard.{Heard, Sent, visitEvents, pageEvents}
+use Rattle.page_laws.specs.Heard.{Heard, visitEvents, pageEvents, eventsFor}
+use Rattle.page_laws.specs.Script.{pageScript}
 
--- ---- calls one after the other
+-- ---- calls one after the other, all lent one buffer
 
--- what a caller holds between the calls: the state, and the buffer that it lends to each of them
+-- what a caller holds between the calls: the state, and the buffer
 pub record Held : Type 0 where
   pub state : PageRead
   pub buffer : List ℕ
@@ -43,48 +46,50 @@ after n h replies = joint.calls (called n) (told n) h replies
 abbrev pub started : ℕ → ℕ → List ℕ → Held
 started n p lent = record { state = startState n p; buffer = lent }
 
--- a call may be lent a buffer of another length instead
-pub data Call : Type 0 where
-  right : Bool → Call
-  wrong : Bool → List ℕ → Call
+-- ---- calls that are each lent a buffer of their own
 
--- such a call, and any number of calls of both kinds
-abbrev pub calledWith : ℕ → Held → Call → Held
-calledWith n h (right reply) = called n h reply
-calledWith n h (wrong reply other) = record { state = readState n (h .state) reply other; buffer = h .buffer }
+-- what a call is given: the reply and a buffer; and what it gives back: its answer and the buffer after it
+pub record Lent : Type 0 where
+  pub reply : Bool
+  pub buffer : List ℕ
 
-unfoldable pub calledWithAll : ℕ → Held → List Call → Held
-calledWithAll n h [] = h
-calledWithAll n h (c ∷ cs) = calledWithAll n (calledWith n h c) cs
+pub record Given : Type 0 where
+  pub answer : Told Next
+  pub buffer : List ℕ
 
-unfoldable pub rightOnes : List Call → List Bool
-rightOnes [] = []
-rightOnes (right reply ∷ cs) = reply ∷ rightOnes cs
-rightOnes (wrong reply other ∷ cs) = rightOnes cs
+abbrev pub stateAfter : ℕ → PageRead → Lent → PageRead
+stateAfter n s c = readState n s (c .reply) (c .buffer)
 
--- the buffers lent to the wrong calls are of another length
-unfoldable pub Wrong : List Call → Type 0
-Wrong [] = Unit {0}
-Wrong (right reply ∷ cs) = Wrong cs
-Wrong (wrong reply other ∷ cs) = (length other ≡ 32 → ⊥) × Wrong cs
+abbrev pub givenBack : ℕ → PageRead → Lent → Given
+givenBack n s c = record { answer = readAnswer n s (c .reply) (c .buffer); buffer = readBuffer n s (c .reply) (c .buffer) }
 
--- ---- what a verdict tells, and what it leaves in the buffer
+abbrev pub givenTo : ℕ → PageRead → List Lent → List Given
+givenTo n s calls = joint.answers (stateAfter n) (givenBack n) s calls
+
+-- A call with another buffer than one of 32 bytes is refused, 10, and nothing changes. Else it comes to the script's next point; it leaves
+-- the bytes handed over there in the buffer, or the buffer as it was.
+abbrev pub scriptAfter : (Bool → Script) → Lent → Bool → Script
+scriptAfter on c = cond (eqb (length (c .buffer)) 32) (follow (on (c .reply))) on
+
+abbrev pub scriptBack : (Bool → Script) → Lent → Given
+scriptBack on c =
+    cond (eqb (length (c .buffer)) 32) (record { answer = toldAt (on (c .reply)); buffer = leftIn (handedAt (on (c .reply))) (c .buffer) })
+    (record { answer = refused 10 []; buffer = c .buffer })
+
+abbrev pub playLent : Script → List Lent → List Given
+playLent script calls = joint.answers scriptAfter scriptBack (λ first. script) calls
+
+-- ---- what a verdict tells, and the bytes that come with it
 
 abbrev pub verdictTold : Verdict → Told Next
 verdictTold (Final p hops) = accepted (tells (p .0 ∷ hops ∷ []))
 verdictTold Loop = refused 4 []
 verdictTold (Outside k) = refused 5 (k ∷ [])
 
--- the page under Final, and otherwise the buffer untouched
-abbrev pub given : Verdict → List ℕ → List ℕ → List ℕ
-given (Final p hops) page buffer = page
-given Loop page buffer = buffer
-given (Outside k) page buffer = buffer
-
-abbrev pub delivered : Verdict → List ℕ → List ℕ → List ℕ
-delivered (Final p hops) img buffer = pageBytes img (p .0)
-delivered Loop img buffer = buffer
-delivered (Outside k) img buffer = buffer
+abbrev pub verdictBytes : Verdict → List ℕ → List ℕ
+verdictBytes (Final p hops) img = pageBytes img (p .0)
+verdictBytes Loop img = []
+verdictBytes (Outside k) img = []
 
 -- ---- whatever the replies
 
@@ -97,47 +102,48 @@ pub record Agreed (n p : ℕ) (v : Verdict) (lent : List ℕ) (replies : List Bo
   pub is : replies ≡ used ++ rest
   pub heard : Heard n p 0 used events v page
   pub sent : eventsOf answers ≡ events
-  pub buffer : end ≡ given v page lent
+  pub buffer : end ≡ leftIn page lent
 
--- ---- joined to a chip: each event reaches it, and the next call gets the reply that it drew
+-- ---- joined to a chip
 
-abbrev pub joints : ℕ → ℕ → Joined Held Chip (Told Next) → Joined Held Chip (Told Next)
-joints n k j = joint.joints (next n) (lineAt n) (called n) (told n) outOf k j
-
--- before the first call, which may get any reply; nothing has been told, and the last field is anything
-abbrev pub opened : ℕ → ℕ → Chip → List ℕ → Bool → Told Next → Joined Held Chip (Told Next)
-opened n p c lent first none = record { master = started n p lent; bus = c; reply = first; told = none }
-
--- the last call told the verdict, the buffer holds what belongs to it, and the image is as it was
-pub record Tells (j : Joined Held Chip (Told Next)) (v : Verdict) (img lent : List ℕ) : Type 0 where
-  pub verdict : j .told ≡ verdictTold v
-  pub buffer : j .master .buffer ≡ delivered v img lent
-  pub image : j .bus .image ≡ img
+-- With good replies: all the answers, which are the events along the chain and then the walk's verdict, again and again; and the buffer,
+-- which is untouched up to the call that first tells Final, and from it on holds that page of the image.
+pub record Joined (n : ℕ) (c : Chip) (p : ℕ) (lent : List ℕ) (replies : List Bool) : Type 0 where
+  pub answers : answersTo n (started n p lent) replies ≡ telling (eventsFor n (c .image) p) (verdictTold (walkOf n (c .image) p)) (length replies)
+  pub buffer : after n (started n p lent) replies .buffer ≡ leaving (eventsFor n (c .image) p) (verdictBytes (walkOf n (c .image) p) (c .image)) (length replies) lent
 
 -- as many events as a read can take: 57 for each page, 272, and the closing reset
 abbrev pub mostEvents : ℕ → ℕ
 mostEvents n = 57 * n + 273
 
-pub record PageLaws (n : ℕ) : Type 0 where
+pub record PageLaws (n : ℕ) : Type 1 where
   -- every start and every call keep to the ranges
   pub starts : (p : ℕ) → inRange n (startState n p) ≡ true
   pub keeps : (s : PageRead) (reply : Bool) (buffer : List ℕ) → inRange n s ≡ true → inRange n (readState n s reply buffer) ≡ true
-  -- 57 and 272 events
+  -- 2 is told of a state outside the ranges, whatever buffer is lent with it, both come back the same; and of no other
+  pub outside : (s : PageRead) (reply : Bool) (buffer : List ℕ) → inRange n s ≡ false
+      → (readAnswer n s reply buffer ≡ refused 2 []) × (readState n s reply buffer ≡ s) × (readBuffer n s reply buffer ≡ buffer)
+  pub never-2 : (s : PageRead) (reply : Bool) (buffer values : List ℕ) → inRange n s ≡ true → readAnswer n s reply buffer ≡ refused 2 values → ⊥
+  -- whatever the page asked for, the replies and the buffers lent, the calls give back what the script gives
+  pub plays-lent : (p : ℕ) (calls : List Lent) → givenTo n (startState n p) calls ≡ playLent (pageScript n p) calls
+  -- with one buffer of 32 bytes: the answers, and the buffer after them
+  pub plays : (p : ℕ) (lent : List ℕ) (replies : List Bool) → length lent ≡ 32 → answersTo n (started n p lent) replies ≡ play (pageScript n p) replies
+  pub leaves : (p : ℕ) (lent : List ℕ) (replies : List Bool) → length lent ≡ 32 → after n (started n p lent) replies .buffer ≡ leftBy (λ first. pageScript n p) replies lent
+  -- so, whatever the replies, never more events than 57 for each page and 273, 3,921 with 64 pages ..
   pub visit-counted : (p : ℕ) → length (visitEvents p) ≡ 57
   pub page-counted : length pageEvents ≡ 273
-  -- whatever the replies, the events are those that the bytes received so far determine; the first reply is not looked at
-  pub ordered : (p : ℕ) (lent : List ℕ) (first : Bool) (replies : List Bool) → p < n → length lent ≡ 32
-      → Sent n p 0 replies (eventsOf (answersTo n (started n p lent) (first ∷ replies)))
-  -- never more events than that, whatever the replies
-  pub at-most : (p : ℕ) (lent : List ℕ) (replies : List Bool) → p < n → length lent ≡ 32
-      → length (eventsOf (answersTo n (started n p lent) replies)) ≤ mostEvents n
-  -- whatever the replies, a verdict is told only where the replies agree with it
+  pub at-most : (p : ℕ) (lent : List ℕ) (replies : List Bool) → length lent ≡ 32 → length (eventsOf (answersTo n (started n p lent) replies)) ≤ mostEvents n
+  -- .. a verdict is told only where the replies agree with it ..
   pub agreed : (p : ℕ) (lent : List ℕ) (first : Bool) (replies : List Bool) (v : Verdict) (before later : List (Told Next)) → p < n → length lent ≡ 32
       → answersTo n (started n p lent) (first ∷ replies) ≡ before ++ (verdictTold v ∷ later)
       → Agreed n p v lent replies (answersTo n (started n p lent) (first ∷ replies)) (after n (started n p lent) (first ∷ replies) .buffer)
-  -- calls that are lent a buffer of another length change nothing
-  pub wrong-calls : (h : Held) (calls : List Call) → inRange n (h .state) ≡ true → Wrong calls
-      → calledWithAll n h calls ≡ after n h (rightOnes calls)
-  -- joined to a chip, with more calls than events, it ends with the walk's verdict over the chip's image, and the image stays
-  pub joined : (c : Chip) (p k : ℕ) (lent : List ℕ) (first : Bool) (none : Told Next) → Ready n c → Bytes (c .image) → p < n → length lent ≡ 32 → mostEvents n < k
-      → Tells (joints n k (opened n p c lent first none)) (walkOf n (c .image) p) (c .image) lent
+  -- .. and no image changes that the events reach
+  pub image-stays : (c : Chip) (p : ℕ) (lent : List ℕ) (replies : List Bool) → length lent ≡ 32
+      → run n c (eventsOf (answersTo n (started n p lent) replies)) .image ≡ c .image
+  -- joined to any bus, it does what the script does there
+  pub plays-on : {B : Type 0} (react : B → Event → B) (line : B → Event → Bool) (p : ℕ) (lent : List ℕ) (b : B) (replies : List Bool) → length lent ≡ 32
+      → Good react line outOf b (answersTo n (started n p lent) replies) replies
+      → answersTo n (started n p lent) replies ≡ playedTelling react line (pageScript n p) b (length replies)
+  -- joined to a chip, it tells the verdict of the redirection chain
+  pub joined : (c : Chip) (p : ℕ) (lent : List ℕ) (replies : List Bool) → Ready n c → Bytes (c .image) → p < n → length lent ≡ 32
+      → Good (next n) (lineAt n) outOf c (answersTo n (started n p lent) replies) replies → Joined n c p lent replies
