@@ -100,4 +100,4 @@ on-bus react line call told {s} {script} plays b replies g =
     plays replies ∙ good-plays react line script b replies (subst (λ (l : List (Told Next)). Good react line outOf b l replies) (plays replies) g)
 
 pub script-laws : ScriptLaws
-script-laws = record { on-bus = on-bus; joined = λ react line call told s b first k. (drawn-length react line call told k s b first, drawn-good react line call told k s b first) }
+script-laws = record { on-bus = on-bus; drawn = λ react line call told s b first k. (drawn-length react line call told k s b first, drawn-good react line call told k s b first) }

@@ -150,6 +150,6 @@ pub record ScriptLaws : Type 1 where
       → ((replies : List Bool) → answers call told s replies ≡ play script replies)
       → (b : B) (replies : List Bool) → Good react line outOf b (answers call told s replies) replies
       → answers call told s replies ≡ playedTelling react line script b (length replies)
-  pub joined : {B S : Type 0} (react : B → Event → B) (line : B → Event → Bool) (call : S → Bool → S) (told : S → Bool → Told Next) (s : S) (b : B) (first : Bool) (k : ℕ)
+  pub drawn : {B S : Type 0} (react : B → Event → B) (line : B → Event → Bool) (call : S → Bool → S) (told : S → Bool → Told Next) (s : S) (b : B) (first : Bool) (k : ℕ)
       → length (drawnReplies react line outOf call told k s b first) ≡ k
       × Good react line outOf b (answers call told s (drawnReplies react line outOf call told k s b first)) (drawnReplies react line outOf call told k s b first)
