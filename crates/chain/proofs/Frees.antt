@@ -10,7 +10,8 @@ use Rattle.memory.specs.Image.{redirectionOf}
 use Rattle.chain.specs.declared.free.Found.the-variants.{At, Nothing}
 use Rattle.chain.specs.Walk.{namedBy}
 use Rattle.chain.specs.Free.{names, isUnnamed, isFree, isFreeOther, lowestFree, Free, Lowest}
-use Rattle.chain.proofs.Scan.{both-true, every-means, every-intro, first-at, first-nothing}
+use Rattle.terms.proofs.Scan.{both-true, every-means, every-intro}
+use Rattle.chain.proofs.Scan.{first-at, first-nothing}
 
 pub free-means : (n : ℕ) (img : List ℕ) (p : ℕ) → isFree n img p ≡ true → Free n img p
 unfolding isFree isUnnamed

@@ -9,7 +9,8 @@ use Rattle.memory.specs.declared.layout.Field.the-variants.{DataProtection, Use
 use Rattle.memory.specs.Image.{redirectionOf, pageBytes, pageBit}
 use Rattle.memory.specs.Page.{isBlank}
 use Rattle.chain.specs.declared.free.Found.{Found}
-use Rattle.chain.specs.Scan.{every, first, count}
+use Rattle.terms.specs.Scan.{every, count}
+use Rattle.chain.specs.Scan.{first}
 use Rattle.chain.specs.Walk.{namedBy}
 
 -- a redirection byte names page p

@@ -1,20 +1,10 @@
--- Tests over numbers one after the other.
+-- The first page that passes a test.
 use Prim.Native.Nat.{ℕ, zero, suc, _+_}
-use mathlib.Core.Bool.{Bool, true, cond, _&&_}
+use mathlib.Core.Bool.{Bool, cond}
 use Rattle.chain.specs.declared.free.Found.{Found}
 use Rattle.chain.specs.declared.free.Found.the-variants.{At, Nothing}
-
--- the test t holds at each of the k numbers from q on
-unfoldable pub every : (ℕ → Bool) → ℕ → ℕ → Bool
-every t zero q = true
-every t (suc k) q = let rest : Bool = every t k (q + 1) in t q && rest
 
 -- the first of the k pages from q on at which t holds
 unfoldable pub first : (ℕ → Bool) → ℕ → ℕ → Found
 first t zero q = Nothing
 first t (suc k) q = let rest : Found = first t k (q + 1) in cond (t q) (At (record { 0 = q })) rest
-
--- at how many of the k numbers from q on t holds
-unfoldable pub count : (ℕ → Bool) → ℕ → ℕ → ℕ
-count t zero q = 0
-count t (suc k) q = let rest : ℕ = count t k (q + 1) in cond (t q) (rest + 1) rest

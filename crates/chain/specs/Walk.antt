@@ -7,7 +7,7 @@ use lib.Dec.{eqb, ltb}
 use Rattle.terms.specs.declared.verdict.Verdict.{Verdict}
 use Rattle.terms.specs.declared.verdict.Verdict.the-variants.{Final, Loop, Outside}
 use Rattle.memory.specs.Image.{redirectionOf}
-use Rattle.chain.specs.Scan.{count}
+use Rattle.terms.specs.Scan.{count}
 
 -- the page that a redirection byte names
 abbrev pub namedBy : ℕ → ℕ

@@ -2,13 +2,12 @@
 use Prim.Native.Nat.{ℕ, zero, suc, _+_, _-_, _*_}
 use mathlib.Core.Bool.{Bool, cond, _&&_}
 use mathlib.Core.List.{List, []}
-use lib.Dec.{eqb, leb}
+use lib.Dec.{eqb, ltb, leb}
 use lib.ListN.{getD}
 use lib.IntN.{ℤ, pos, _+ℤ_}
 use lib.Signed.{ltZ, leZ}
 use Rattle.terms.specs.Told.{Told, refused, accepted, refusing, judge}
-use Rattle.memory.specs.Layout.{isPage}
-use Rattle.chain.specs.Scan.{every}
+use Rattle.terms.specs.Scan.{every}
 use Rattle.tenths.specs.Tenths.{wordOf, signedOf}
 use Rattle.lookup.specs.declared.header.Row.{Row}
 use Rattle.lookup.specs.declared.header.Row.the-variants.{Refused, Number}
@@ -50,7 +49,7 @@ fieldsRight header =
 
 -- no page number is above the chip's last page
 unfoldable pub pagesRight : ℕ → List ℕ → Bool
-pagesRight n header = every (λ (i : ℕ). isPage n (rowPage header i)) (rowsOf header) 0
+pagesRight n header = every (λ (i : ℕ). ltb (rowPage header i) n) (rowsOf header) 0
 
 -- FFh from the last page number to the end of the page
 unfoldable pub restBlank : List ℕ → Bool

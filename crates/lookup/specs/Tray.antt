@@ -5,8 +5,7 @@ use mathlib.Core.List.{List, [], _∷_, _++_, map}
 use lib.IntN.{ℤ, pos, negℤ}
 use lib.ListN.{length, replicate}
 use Rattle.terms.specs.Told.{Told, refused, accepted}
-use Rattle.memory.specs.Layout.{isPage}
-use Rattle.chain.specs.Scan.{every}
+use Rattle.terms.specs.Scan.{every}
 use Rattle.tenths.specs.Tenths.{wordOf, signedOf}
 use Rattle.lookup.specs.Header.{wordAt, rowsOf, columnsOf, edgeOf, heightOf, rowPage, isBetween, fieldsRight, pagesRight, restBlank, isHeader, lowerEdge, covers, rowFrom, rowAnswer}
 
@@ -44,5 +43,5 @@ rows =
     ∷ []
 
 pub rows-hold : map (λ (r : Row). rowAnswer 64 (r .header) (r .latitude)) rows ≡ map (λ (r : Row). r .told) rows
-unfolding rows northern widest page wordOf signedOf wordAt rowsOf columnsOf edgeOf heightOf rowPage isPage every isBetween fieldsRight pagesRight restBlank isHeader lowerEdge covers rowFrom rowAnswer
+unfolding rows northern widest page wordOf signedOf wordAt rowsOf columnsOf edgeOf heightOf rowPage every isBetween fieldsRight pagesRight restBlank isHeader lowerEdge covers rowFrom rowAnswer
 rows-hold = refl

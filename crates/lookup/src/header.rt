@@ -1,9 +1,7 @@
 // The header, which says which page holds the row of a latitude. Each function takes any bytes; past their end they read 0.
 ghost use mathlib.Core.Path.{_≡_};
-ghost use Rattle.memory.specs.Layout.{pageCount};
+ghost use lib.ListN.{getD};
 ghost use Rattle.lookup.specs.Header.{wordAt, rowsOf, columnsOf, edgeOf, heightOf, rowPage, isBetween, fieldsRight, pagesRight, restBlank, isHeader, lowerEdge, covers, rowFrom, rowTold, rowAnswer};
-use memory::image;
-use memory::layout;
 use terms::address::Page;
 use terms::refusal::Refusal;
 
@@ -13,12 +11,19 @@ pub enum Row {
     Number(u16),
 }
 
+// Byte i of a page.
+fn byte_at(page: &[u8], i: usize) -> u8
+    ensures { λ r. ⌜ r ≡ getD (now (page .entry)) i 0 ⌝ }
+{
+    if i < page.len() { page[i] } else { 0 }
+}
+
 // The 16-bit number k of a page.
 pub fn word_at(page: &[u8], k: u32) -> u16
     ensures { λ r. ⌜ r ≡ wordAt (now (page .entry)) k ⌝ }
 {
     let i = 2 * k as usize;
-    tenths::word_of(image::byte_at(page, i), image::byte_at(page, i + 1))
+    tenths::word_of(byte_at(page, i), byte_at(page, i + 1))
 }
 
 // ---- the fields
@@ -50,7 +55,7 @@ pub fn height(header: &[u8]) -> u16
 pub fn row_page(header: &[u8], i: u16) -> Page
     ensures { λ r. ⌜ r .0 ≡ rowPage (now (header .entry)) i ⌝ }
 {
-    Page(image::byte_at(header, 10 + i as usize))
+    Page(byte_at(header, 10 + i as usize))
 }
 
 // ---- what a header is
@@ -79,11 +84,11 @@ fn are_fields_right(header: &[u8]) -> bool
     word_at(header, 4) == 0
 }
 
-fn are_pages_right(header: &[u8], last: Page) -> bool
-    ensures { λ r. ⌜ r ≡ pagesRight (pageCount last) (now (header .entry)) ⌝ }
+fn are_pages_right(header: &[u8], pages: u16) -> bool
+    ensures { λ r. ⌜ r ≡ pagesRight pages (now (header .entry)) ⌝ }
 {
     for i in 0..rows(header) {
-        if !layout::is_page(last, row_page(header, i)) {
+        if row_page(header, i).0 as u16 >= pages {
             return false;
         }
     }
@@ -94,21 +99,21 @@ fn is_rest_blank(header: &[u8]) -> bool
     ensures { λ r. ⌜ r ≡ restBlank (now (header .entry)) ⌝ }
 {
     for k in 10 + rows(header) as usize..32 {
-        if image::byte_at(header, k) != 0xFF {
+        if byte_at(header, k) != 0xFF {
             return false;
         }
     }
     true
 }
 
-// The bytes are a header for a chip with this last page.
-pub fn is_header(header: &[u8], last: Page) -> bool
-    ensures { λ r. ⌜ r ≡ isHeader (pageCount last) (now (header .entry)) ⌝ }
+// The bytes are a header for a chip with so many pages.
+pub fn is_header(header: &[u8], pages: u16) -> bool
+    ensures { λ r. ⌜ r ≡ isHeader pages (now (header .entry)) ⌝ }
 {
     if !are_fields_right(header) {
         return false;
     }
-    if !are_pages_right(header, last) {
+    if !are_pages_right(header, pages) {
         return false;
     }
     is_rest_blank(header)
@@ -145,10 +150,10 @@ fn find_row(header: &[u8], latitude: i32) -> Row
 }
 
 // The row of a latitude. Refused: 16, 17.
-pub fn row_of(header: &[u8], last: Page, latitude: i32) -> Row
-    ensures { λ r. ⌜ rowTold r ≡ rowAnswer (pageCount last) (now (header .entry)) latitude ⌝ }
+pub fn row_of(header: &[u8], pages: u16, latitude: i32) -> Row
+    ensures { λ r. ⌜ rowTold r ≡ rowAnswer pages (now (header .entry)) latitude ⌝ }
 {
-    if !is_header(header, last) {
+    if !is_header(header, pages) {
         return Row::Refused(Refusal::Header);
     }
     find_row(header, latitude)

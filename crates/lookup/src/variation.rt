@@ -6,10 +6,12 @@ use crate::end;
 use crate::end::End;
 use crate::header;
 use crate::header::Row;
-use memory::layout;
 use tenths::Tenths;
 use terms::address::Page;
 use terms::refusal::Refusal;
+
+// How many pages the chip has, as its walk and its page say.
+const PAGES: u16 = 64;
 
 // The value of a column on a row page.
 fn in_column(page: &[u8], column: u32) -> Tenths
@@ -43,7 +45,7 @@ fn in_row(image: &[u8], header: &[u8], column: u32, i: u16) -> Tenths
 fn in_header(image: &[u8], latitude: i32, column: u32, header: &[u8]) -> Tenths
     ensures { λ r. ⌜ tenthsTold r ≡ headerValue 64 (now (image .entry)) latitude column (now (header .entry)) ⌝ }
 {
-    match header::row_of(header, Page(layout::DS2505), latitude) {
+    match header::row_of(header, PAGES, latitude) {
         Row::Refused(r) => Tenths::Refused(r),
         Row::Number(i) => in_row(image, header, column, i),
     }

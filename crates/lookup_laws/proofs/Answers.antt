@@ -19,7 +19,7 @@ use Rattle.memory.specs.Image.{redirectionOf, pageBytes}
 use Rattle.memory.specs.Page.{isBlank}
 use Rattle.memory.proofs.Sizes.{page-below}
 use Rattle.chain.specs.Walk.{walkOf}
-use Rattle.chain.proofs.Scan.{both-true}
+use Rattle.terms.proofs.Scan.{both-true}
 use Rattle.chain.proofs.Walks.{final-means}
 use Rattle.update_laws.specs.Update.{Reading, bytesUnder, readOf}
 use Rattle.update_laws.proofs.Relink.{final-below}

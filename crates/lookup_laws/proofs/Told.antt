@@ -14,7 +14,7 @@ use Rattle.terms.specs.Told.{Told, accepted, refused, judge}
 use Rattle.terms.specs.declared.verdict.Verdict.{Verdict}
 use Rattle.terms.specs.declared.verdict.Verdict.the-variants.{Final, Loop, Outside}
 use Rattle.memory.specs.Layout.{isImage, isPage}
-use Rattle.chain.proofs.Scan.{both-true, both-intro, every-means}
+use Rattle.terms.proofs.Scan.{both-true, both-intro, every-means}
 use Rattle.chip.specs.Page.{pagePart}
 use Rattle.chip.specs.Walk.{walkAnswer}
 use Rattle.tenths.specs.Tenths.{isValue, signedOf}
@@ -146,7 +146,7 @@ module _ (n : ℕ) (header : List ℕ) (latitude : ℤ) where
   OnPage = Sound (λ i. isPage n (rowPage header i) ≡ true)
 
   row-page : isHeader n header ≡ true → (i : ℕ) → i < rowsOf header → isPage n (rowPage header i) ≡ true
-  unfolding isHeader pagesRight
+  unfolding isHeader pagesRight isPage
   row-page e i lt =
       let w = both-true (fieldsRight header) (pagesRight n header && restBlank header) e in
       every-means _ (rowsOf header) 0 (both-true (pagesRight n header) (restBlank header) (w .1) .0) i (omega arith) (omega arith)

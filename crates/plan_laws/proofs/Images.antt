@@ -23,7 +23,7 @@ use Rattle.memory.proofs.Gaps.{redirection-held}
 use Rattle.memory.proofs.Pages.{page-length}
 use Rattle.memory_stage.specs.Limits.{targetAt}
 use Rattle.chain.specs.Free.{Free}
-use Rattle.chain.proofs.Scan.{both-true}
+use Rattle.terms.proofs.Scan.{both-true}
 use Rattle.update_laws.specs.Update.{bitmapIndex, stored, cleared, filled, linked}
 use Rattle.update_laws.proofs.Images.{Accepted, bytes-before}
 use Rattle.update_laws.proofs.Stores.{stored-length}

@@ -13,7 +13,8 @@ use Rattle.memory.specs.Image.{pageBit, redirectionOf, pageBytes}
 use Rattle.memory.specs.Page.{isBlank}
 use Rattle.memory.specs.Write.{bitOf, statusWritable, isWritable, indexOf, programmed}
 use Rattle.chain.specs.Walk.{walkFrom, walkOf}
-use Rattle.chain.specs.Scan.{every, first}
+use Rattle.terms.specs.Scan.{every}
+use Rattle.chain.specs.Scan.{first}
 use Rattle.chain.specs.Free.{isUnnamed, isFree, isFreeOther, lowestFree}
 use Rattle.publisher.specs.declared.Choice.{Choice}
 use Rattle.publisher.specs.declared.Choice.the-variants.{Refused, Accepted}

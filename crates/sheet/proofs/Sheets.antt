@@ -17,7 +17,7 @@ use Rattle.memory.specs.Layout.{imageSize, isImage, statusIndex, isHeld}
 use Rattle.memory.specs.Page.{copied}
 use Rattle.memory.proofs.Pages.{copied-same}
 use Rattle.memory.proofs.Sizes.{image-length}
-use Rattle.chain.proofs.Scan.{both-true, both-intro}
+use Rattle.terms.proofs.Scan.{both-true, both-intro}
 use Rattle.sheet.specs.Text.{putAt}
 use Rattle.sheet.proofs.Puts.{put-first, put-next, put-back}
 use Rattle.sheet.specs.Stored.{headerOf, sheetSize, startsWith, gapsBlank, isSheet, sheetAnswer, numberPart, imagePart, sheetOf, SheetLaws}

@@ -7,7 +7,7 @@ use lib.Dec.{eqb}
 use lib.ListN.{length, getD, take, drop, replicate}
 use Rattle.terms.specs.Told.{Told, accepted, judge, Done, done, unlessRefused}
 use Rattle.memory.specs.Layout.{dataSize, statusSize, imageSize, statusIndex, isHeld, isImage}
-use Rattle.chain.specs.Scan.{every}
+use Rattle.terms.specs.Scan.{every}
 
 -- a 16-bit number, low byte first
 abbrev pub word : ℕ → List ℕ

@@ -6,7 +6,7 @@ use lib.ListN.{replicate, set}
 use Rattle.memory.specs.Layout.{imageSize, statusIndex, redirectionBytes, firstAddress}
 use Rattle.memory.specs.Image.{redirectionOf, pageBytes, pageBit}
 use Rattle.memory.specs.Page.{isBlank}
-use Rattle.chain.specs.Scan.{every, count}
+use Rattle.terms.specs.Scan.{every, count}
 use Rattle.chain.specs.Walk.{walkFrom, walkOf, redirectedCount}
 use Rattle.chain.specs.Free.{isUnnamed, isFree, freeCount}
 use Rattle.sheet.specs.Text.{digitOf, decimal}

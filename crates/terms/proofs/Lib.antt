@@ -1,5 +1,6 @@
 pub mod Collect
 pub mod Filled
 pub mod Refusals
+pub mod Scan
 pub mod Values
 pub mod Words

@@ -1,5 +1,6 @@
 pub mod Bits
 pub mod Filled
 pub mod Refusal
+pub mod Scan
 pub mod Told
 pub mod WriteMode

@@ -6,8 +6,8 @@ use borrow.Author.Needs.{needs}
 use Rattle.memory.specs.Layout.{pageCount}
 use mathlib.Core.Logic.{⊎-elim}
 use native.Mathlib.Nat.{zero-add}
-use Rattle.chain.specs.Scan.{count}
-use Rattle.chain.proofs.Scan.{count-more, count-same, count-over}
+use Rattle.terms.specs.Scan.{count}
+use Rattle.terms.proofs.Scan.{count-more, count-same, count-over}
 use Rattle.chain.specs.Free.{isFree, freeCount}
 use Rattle.chain.proofs.free.free_count.Statement.{statement}
 use Rattle.chain.proofs.free.free_count.Tie as tie

@@ -6,9 +6,9 @@ use borrow.Author.Needs.{needs}
 use Rattle.memory.specs.Layout.{pageCount}
 use Rattle.memory.specs.Image.{redirectionOf}
 use mathlib.Core.Bool.{not}
-use Rattle.chain.specs.Scan.{every}
+use Rattle.terms.specs.Scan.{every}
 use Rattle.chain.specs.Free.{names, isUnnamed}
-use Rattle.chain.proofs.Scan.{every-fails, every-goes-on, every-over}
+use Rattle.terms.proofs.Scan.{every-fails, every-goes-on, every-over}
 use Rattle.chain.proofs.free.is_unnamed.Statement.{statement}
 use Rattle.chain.proofs.free.is_unnamed.Tie as tie
 

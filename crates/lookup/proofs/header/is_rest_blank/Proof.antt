@@ -7,8 +7,8 @@ use lib.Dec.{eqb}
 use lib.ListN.{getD}
 use borrow.Author.Tests.{eq-eqb, ne-eqb}
 use borrow.Author.Needs.{needs}
-use Rattle.chain.specs.Scan.{every}
-use Rattle.chain.proofs.Scan.{every-fails, every-goes-on, every-over}
+use Rattle.terms.specs.Scan.{every}
+use Rattle.terms.proofs.Scan.{every-fails, every-goes-on, every-over}
 use Rattle.lookup.specs.Header.{restBlank}
 use Rattle.lookup.proofs.header.is_rest_blank.Statement.{statement}
 use Rattle.lookup.proofs.header.is_rest_blank.Tie as tie

@@ -1,7 +1,7 @@
 use borrow.Author.Needs.{needs}
 use Rattle.sheet.proofs.Sheets.{gapOk}
-use Rattle.chain.specs.Scan.{every}
-use Rattle.chain.proofs.Scan.{every-fails, every-goes-on, every-over}
+use Rattle.terms.specs.Scan.{every}
+use Rattle.terms.proofs.Scan.{every-fails, every-goes-on, every-over}
 use Rattle.sheet.specs.Stored.{gapsBlank}
 use Rattle.memory.specs.Layout.{pageCount, statusSize}
 use Prim.Native.Nat.{_-_, _≤_}
