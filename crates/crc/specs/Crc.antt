@@ -37,9 +37,13 @@ crc16From = crcBytes crc16Polynomial
 abbrev pub crc16Of : List ℕ → ℕ
 crc16Of = crc16From 0
 
--- From a register loaded with an address: the address as a number, its low byte at the end that is shifted out first.
+-- A register loaded with an address: the address as a number, its low byte at the end that is shifted out first.
+abbrev pub crc16Load : ℕ → ℕ
+crc16Load address = address
+
+-- from a register so loaded
 abbrev pub crc16Loaded : ℕ → List ℕ → ℕ
-crc16Loaded address = crc16From address
+crc16Loaded address = crc16From (crc16Load address)
 
 -- what is sent of a register: its complement, as a number
 abbrev pub crc16Word : ℕ → ℕ

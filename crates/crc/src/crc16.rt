@@ -1,7 +1,7 @@
 // CRC-16, x^16 + x^15 + x^2 + 1. The register is cleared first, or loaded with an address, and is sent complemented, low byte first.
 ghost use mathlib.Core.Path.{_≡_};
 ghost use Prim.Native.Nat.{_%_};
-ghost use Rattle.crc.specs.Crc.{crc16Byte, crc16From, crc16Of, crc16Loaded, crc16Word, crc16Sent};
+ghost use Rattle.crc.specs.Crc.{crc16Byte, crc16From, crc16Of, crc16Load, crc16Word, crc16Sent};
 ghost use Rattle.crc.specs.Polynomial.{crc16Polynomial};
 ghost use Rattle.crc.specs.Table.{tableOf, lowNibblesOf, highNibblesOf, stepByNibbles};
 use crate::crc16_table;
@@ -84,11 +84,11 @@ pub fn of(bytes: &[u8]) -> u16
     run(0, bytes)
 }
 
-// The register after the bytes, from one loaded with an address.
-pub fn loaded(address: u16, bytes: &[u8]) -> u16
-    ensures { λ r. ⌜ r ≡ crc16Loaded address (now (bytes .entry)) ⌝ }
+// The register loaded with an address, which is not shifted in.
+pub fn load(address: u16) -> u16
+    ensures { λ r. ⌜ r ≡ crc16Load address ⌝ }
 {
-    run(address, bytes)
+    address
 }
 
 // The sixteen bits that are sent of a register, as a number: every bit turned over.

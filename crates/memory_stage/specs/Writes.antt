@@ -9,7 +9,7 @@ use Rattle.terms.specs.declared.address.Target.{Target}
 use Rattle.terms.specs.declared.address.Target.the-variants.{Data as DataTarget, Status as StatusTarget}
 use Rattle.terms.specs.declared.write_mode.WriteMode.{WriteMode}
 use Rattle.terms.specs.declared.write_mode.WriteMode.the-variants.{Ordinary, Quick}
-use Rattle.crc.specs.Crc.{crc16Byte}
+use Rattle.crc.specs.Crc.{crc16Byte, crc16Load}
 use Rattle.memory.specs.Image.{targetByte}
 use Rattle.memory_stage.specs.declared.stage.Incoming.the-variants.{Data as DataByte}
 use Rattle.memory_stage.specs.declared.stage.Outgoing.the-variants.{WriteCrc, ReadBack}
@@ -29,7 +29,7 @@ dataIn Quick t byte crc = Armed Quick t byte
 
 -- the address rises by one, and the next byte's CRC starts with the register loaded with it; after the last address: silent
 unfoldable pub raised : ℕ → WriteMode → Space → ℕ → MemoryStage
-raised n mode space a = cond (ltb (a + 1) (limitOf n space)) (receiving (DataByte mode (targetAt space (a + 1))) (a + 1)) Silent
+raised n mode space a = cond (ltb (a + 1) (limitOf n space)) (receiving (DataByte mode (targetAt space (a + 1))) (crc16Load (a + 1))) Silent
 
 unfoldable pub nextWrite : ℕ → WriteMode → Target → MemoryStage
 nextWrite n mode (DataTarget a) = raised n mode Data (a .0)

@@ -42,7 +42,10 @@ pub fn raise(last: Page, mode: WriteMode, space: Space, a: u16) -> MemoryStage
     ensures { λ r. ⌜ r ≡ raised (pageCount last) mode space a ⌝ }
 {
     if (a as usize) + 1 < limits::limit(last, space) {
-        stage::receive(Incoming::Data(mode, limits::target(space, a + 1)), a + 1)
+        stage::receive(
+            Incoming::Data(mode, limits::target(space, a + 1)),
+            crc::crc16::load(a + 1),
+        )
     } else {
         MemoryStage::Silent
     }

@@ -11,7 +11,7 @@ use Rattle.terms.specs.declared.write_mode.WriteMode.{WriteMode}
 use Rattle.terms.specs.declared.write_mode.WriteMode.the-variants.{Ordinary, Quick}
 use Rattle.terms.specs.WriteMode.{writeCommand}
 use Rattle.bus.specs.declared.Event.the-variants.{Slot}
-use Rattle.crc.specs.Crc.{crc16Byte, crc16Word}
+use Rattle.crc.specs.Crc.{crc16Byte, crc16Load, crc16Word}
 use Rattle.plan.specs.declared.Wanted.the-variants.{Anything, Bit, LastCrcBit, LastBackBit}
 use Rattle.plan.specs.declared.Step.{Step}
 use Rattle.plan.specs.Plan.{step, resetStep, pulseStep, backByte, headRegister}
@@ -63,7 +63,7 @@ writeAt mode space a old byte i = cond (ltb i 33) (headAt mode space a i) (byteA
 
 -- the register before byte number j of page t; a page has fewer than 2,048 bytes
 unfoldable pub registerAt : WriteMode → ℕ → ℕ → ℕ
-registerAt mode t j = cond (ltb j 1) (headRegister mode Data (32 * t)) (32 * t + j % 2048)
+registerAt mode t j = cond (ltb j 1) (headRegister mode Data (32 * t)) (crc16Load (32 * t + j % 2048))
 
 unfoldable pub pageDataAt : WriteMode → ℕ → List ℕ → ℕ → Step
 pageDataAt mode t new i = byteAt mode (registerAt mode t (i / byteSize mode)) 255 (getD new (i / byteSize mode) 0) (i % byteSize mode)

@@ -12,7 +12,7 @@ use Rattle.terms.specs.WriteMode.{writeCommand}
 use Rattle.bus.specs.declared.Event.{Event}
 use Rattle.bus.specs.declared.Event.the-variants.{Reset, Slot, Pulse}
 use Rattle.bus.specs.Slots.{slots}
-use Rattle.crc.specs.Crc.{crc16Byte, crc16Word}
+use Rattle.crc.specs.Crc.{crc16Byte, crc16Load, crc16Word}
 use Rattle.plan.specs.declared.Wanted.{Wanted}
 use Rattle.plan.specs.declared.Wanted.the-variants.{Anything, Presence, Bit, LastCrcBit, LastBackBit}
 use Rattle.plan.specs.declared.Step.{Step}
@@ -63,7 +63,7 @@ byteSteps mode register old byte = armSteps mode register byte ++ (pulseStep ∷
 -- bytes from address a on, all over the same old byte; before each but the first the register is loaded with its address
 unfoldable pub bytesSteps : WriteMode → ℕ → ℕ → ℕ → List ℕ → List Step
 bytesSteps mode a register old [] = []
-bytesSteps mode a register old (byte ∷ bytes) = byteSteps mode register old byte ++ bytesSteps mode (a + 1) (a + 1) old bytes
+bytesSteps mode a register old (byte ∷ bytes) = byteSteps mode register old byte ++ bytesSteps mode (a + 1) (crc16Load (a + 1)) old bytes
 
 -- the events that select the chip: reset, Skip ROM
 unfoldable pub skipSteps : List Step

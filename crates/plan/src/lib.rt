@@ -120,7 +120,7 @@ fn send_at(b: u8, i: u16) -> Step
     ensures { λ r. ⌜ r ≡ sendAt b i ⌝ }
 {
     Step {
-        event: Event::Slot(bits::at(b, (i % 256) as u8)),
+        event: Event::Slot(bits::at(b, (i & 7) as u8)),
         wanted: Wanted::Anything,
     }
 }
@@ -149,7 +149,7 @@ fn back_at(v: u8, i: u16) -> Step
     if i < 7 {
         Step {
             event: Event::Slot(true),
-            wanted: Wanted::Bit(bits::at(v, (i % 256) as u8)),
+            wanted: Wanted::Bit(bits::at(v, (i & 7) as u8)),
         }
     } else {
         Step {
@@ -271,7 +271,7 @@ fn register_at(mode: WriteMode, t: Page, j: u16) -> u16
     if j < 1 {
         head_register(mode, Space::Data, a)
     } else {
-        a + j % 2048
+        crc::crc16::load(a + j % 2048)
     }
 }
 
@@ -330,7 +330,7 @@ fn rest_at(mode: WriteMode, l: Page, t: Page, new: [u8; 32], i: u16) -> Step
 fn clearing(t: Page) -> u8
     ensures { λ r. ⌜ r ≡ 255 - 2 ^ (t .0 % 8) ⌝ }
 {
-    255 - (1u8 << (t.0 % 8))
+    !(1u8 << (t.0 & 7))
 }
 
 // Event number k, counted from 0, of the plan that puts the bytes new into page t in the place of page l; used is t's bitmap byte.

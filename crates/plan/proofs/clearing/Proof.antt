@@ -1,12 +1,18 @@
+use mathlib.Core.Path.{ap, _∙_}
+use Prim.Native.Nat.{ℕ, _-_, _*_, _%_, _^_}
 use native.Mathlib.Omega.{arith}
-use Prim.Native.Nat.{_%_}
+use lib.Bits.{and-mask, mask-lt}
 use Rattle.plan.proofs.Shift.{shifted}
-use borrow.Author.Needs.{needs}
 use Rattle.plan.proofs.clearing.Statement.{statement}
 use Rattle.plan.proofs.clearing.Tie as tie
 
+shl-result : tie.Need-shl-result
+shl-result c = mask-lt (c .before .args .t .0) 3
+
 returns : tie.Need-returns
-returns c = shifted (c .before .args .t .0 % 8) (omega arith)
+returns c =
+    let t : ℕ = c .before .args .t .0 in
+    ap (λ (k : ℕ). 255 - 1 * 2 ^ k % 256) (and-mask t 3) ∙ shifted (t % 8) (omega arith)
 
 pub clearing-spec : {M : Type 1} → statement M
-clearing-spec = tie.close (tie.spec (λ c. search needs) (λ c. search needs) returns)
+clearing-spec = tie.close (tie.spec shl-result returns)

@@ -10,7 +10,7 @@ returns c = simp (lt-ltb _ _ (c .before .if1 .taken)) (c .head-register .ensures
 
 returns-2 : tie.Need-returns-2
 unfolding registerAt
-returns-2 c = simp (le-ltb _ _ (c .if1 .left))
+returns-2 c = simp (le-ltb _ _ (c .before .if1 .left)) (c .load .ensures)
 
 pub register-at-spec : {M : Type 1} → statement M
 register-at-spec =
@@ -20,5 +20,6 @@ register-at-spec =
     (λ c. search needs)
     (λ c κs. search needs)
     (λ c. search needs)
+    (λ c κs. search needs)
     returns
     returns-2)

@@ -1,6 +1,6 @@
 use native.Mathlib.Omega.{arith}
-use Prim.Native.Nat.{ℕ, _%_}
-use mathlib.Core.Path.{_≡_}
+use lib.Bits.{mask-lt}
+use Rattle.plan.proofs.Shift.{place-in-byte}
 use Rattle.plan.specs.At.{sendAt}
 use borrow.Author.Needs.{needs}
 use Rattle.plan.proofs.send_at.Statement.{statement}
@@ -8,10 +8,7 @@ use Rattle.plan.proofs.send_at.Tie as tie
 
 returns : tie.Need-returns
 unfolding sendAt
-returns c =
-    let i : ℕ = c .before .args .i in
-    let e : i % 256 % 8 ≡ i % 8 = omega arith in
-    simp (c .at .ensures, e)
+returns c = simp (c .at .ensures, place-in-byte (c .before .args .i))
 
 pub send-at-spec : {M : Type 1} → statement M
-send-at-spec = tie.close (tie.spec (λ c. search needs) (λ c κs. search needs) returns)
+send-at-spec = tie.close (tie.spec (λ c. omega (arith, mask-lt (c .args .i) 3)) (λ c κs. search needs) returns)

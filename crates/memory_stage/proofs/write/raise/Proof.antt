@@ -1,7 +1,9 @@
 use Prim.Native.Nat.{_+_}
+use mathlib.Core.Path.{ap, _∙_}
 use native.Mathlib.Omega.{arith}
 use Rattle.memory_stage.proofs.Addresses.{limit-fits}
 use borrow.Author.Tests.{le-ltb, lt-ltb}
+use Rattle.memory_stage.specs.Stages.{receiving}
 use Rattle.memory_stage.specs.Writes.{raised}
 use borrow.Author.Needs.{needs}
 use Rattle.memory_stage.proofs.write.raise.Statement.{statement}
@@ -10,12 +12,14 @@ use Rattle.memory_stage.proofs.write.raise.Tie as tie
 add-target : tie.Need-add-target
 add-target c = omega (arith, c .before .limit .ensures, limit-fits (c .before .before .args .last .0 + 1) (c .before .before .args .space) (omega arith))
 
-add-receive : tie.Need-add-receive
-add-receive c = omega (arith, c .before .before .limit .ensures, limit-fits (c .before .before .before .args .last .0 + 1) (c .before .before .before .args .space) (omega arith))
+add-load : tie.Need-add-load
+add-load c = omega (arith, c .before .before .limit .ensures, limit-fits (c .before .before .before .args .last .0 + 1) (c .before .before .before .args .space) (omega arith))
 
 returns : tie.Need-returns
 unfolding raised
-returns c = simp (← (c .before .target .ensures), ← (c .before .before .before .limit .ensures), lt-ltb _ _ (c .before .before .if1 .taken)) (c .receive .ensures)
+returns c =
+    simp (← (c .before .before .target .ensures), ← (c .before .before .before .before .limit .ensures), lt-ltb _ _ (c .before .before .before .if1 .taken))
+    (c .receive .ensures ∙ ap (receiving _) (c .before .load .ensures))
 
 returns-2 : tie.Need-returns-2
 unfolding raised
@@ -29,7 +33,8 @@ raise-spec =
     (λ c κs. search needs)
     add-target
     (λ c κs. search needs)
-    add-receive
+    add-load
+    (λ c κs. search needs)
     (λ c κs. search needs)
     returns
     returns-2)
