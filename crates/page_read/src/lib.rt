@@ -107,7 +107,7 @@ fn redirection_crc(p: Page, b: Redirection) -> u16
 fn data_crc(bytes: [u8; 32]) -> u16
     ensures { λ r. ⌜ r ≡ dataCrc bytes ⌝ }
 {
-    crc::crc16::word(crc::crc16::of(&bytes))
+    crc::crc16::word(memory::page::crc(&bytes))
 }
 
 // ---- what a reply does

@@ -81,7 +81,7 @@ fn rom_slots(which: u64) -> u64 {
 }
 
 fn number_bit(number: [u8; 8], k: u64) -> bool {
-    bits::at(place::get(&number, (k / 8) as usize), draw::low(k))
+    bits::at(place::get(&number, (k >> 3) as usize), draw::low(k))
 }
 
 // At each place of a search two bits are read, and the third is the number's own.

@@ -17,7 +17,7 @@ pub fn passed(all: usize, left: usize) -> usize {
 
 // The byte of a page in a field of status that has a bit for each page.
 pub fn field_byte(field: u16, page: u8) -> usize {
-    2048 + field as usize + (page / 8) as usize
+    2048 + field as usize + (page >> 3) as usize
 }
 
 // The redirection byte of a page.
@@ -33,7 +33,7 @@ pub fn page_byte(page: u8, k: u8) -> usize {
 // Clears a page's bit in a field.
 pub fn clear(bytes: &mut [u8], field: u16, page: u8) {
     let at = field_byte(field, page);
-    put(bytes, at, get(bytes, at) & !(1u8 << (page % 8)));
+    put(bytes, at, get(bytes, at) & !(1u8 << (page & 7)));
 }
 
 // Has a page name another.

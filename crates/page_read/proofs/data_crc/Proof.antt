@@ -6,7 +6,7 @@ use Rattle.page_read.proofs.data_crc.Tie as tie
 
 returns : tie.Need-returns
 unfolding dataCrc
-returns c = c .word .ensures ∙ simp (c .before .of .ensures)
+returns c = c .word .ensures ∙ simp (c .before .crc .ensures)
 
 pub data-crc-spec : {M : Type 1} → statement M
 data-crc-spec =
