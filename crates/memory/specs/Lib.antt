@@ -2,4 +2,3 @@ pub mod Layout
 pub mod Image
 pub mod Page
 pub mod Write
-pub mod Tray
