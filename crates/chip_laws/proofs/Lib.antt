@@ -1,9 +1,11 @@
 pub mod Bus
 pub mod Ds2505
+pub mod Gaps
 pub mod Notices
 pub mod Runs
 pub mod Sessions
 pub mod Slots
 pub mod States
+pub mod Table
 pub mod Unpulsed
 pub mod Writes
