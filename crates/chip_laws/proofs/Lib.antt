@@ -2,6 +2,7 @@ pub mod Bus
 pub mod Ds2505
 pub mod Gaps
 pub mod Notices
+pub mod Ranges
 pub mod Runs
 pub mod Sessions
 pub mod Slots
