@@ -2,6 +2,7 @@ pub mod Bus
 pub mod Ds2505
 pub mod Gaps
 pub mod Notices
+pub mod Places
 pub mod Ranges
 pub mod Runs
 pub mod Sessions
@@ -10,3 +11,4 @@ pub mod States
 pub mod Table
 pub mod Unpulsed
 pub mod Writes
+pub mod Written
