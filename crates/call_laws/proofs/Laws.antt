@@ -1,18 +1,23 @@
 -- The laws of the publisher's later calls.
 use Prim.Native.Nat.{ℕ, _<_}
+use mathlib.Core.Path.{refl}
+use Rattle.master.proofs.Scripts.{script-laws}
+use Rattle.publisher.specs.Start.{choiceOf}
+use Rattle.publisher.specs.Call.{callAnswer, callState}
 use Rattle.call_laws.specs.Calls.{CallLaws}
-use Rattle.call_laws.proofs.Ranges.{start-fits, call-keeps, call-not}
-use Rattle.call_laws.proofs.Refused.{refusal-repeats}
-use Rattle.call_laws.proofs.Ordered.{events-ordered}
-use Rattle.call_laws.proofs.Complete.{all-told}
+use Rattle.call_laws.proofs.Ranges.{start-fits, call-keeps, call-outside, call-never, call-no-crc}
+use Rattle.call_laws.proofs.Plays.{started-plays, choice-plays, events-ordered}
 
 pub call-laws : (n : ℕ) → 0 < n → CallLaws n
 call-laws n some =
     record {
       starts = start-fits n some;
       keeps = call-keeps n;
-      no-crc = λ s reply values quick. call-not n s quick reply values;
+      outside = call-outside n;
+      never-2 = call-never n;
+      no-crc = call-no-crc n;
+      plays = λ mode img new p replies. choice-plays n mode img new p replies (choiceOf n img new p) refl (start-fits n some mode img new p);
+      plays-started = started-plays n;
       ordered = events-ordered n;
-      complete = all-told n;
-      refuses = refusal-repeats n some;
+      plays-on = λ react line s b replies st. script-laws .on-bus react line (callState n) (callAnswer n) (λ rs. started-plays n s rs st) b replies;
     }

@@ -1,6 +1,4 @@
 pub mod Ranges
-pub mod Turns
-pub mod Refused
-pub mod Ordered
-pub mod Complete
+pub mod Script
+pub mod Plays
 pub mod Laws

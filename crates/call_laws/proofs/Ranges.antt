@@ -1,15 +1,15 @@
 -- Every start and every call keep to the ranges; within them a call takes its turn.
-use Prim.Native.Nat.{ℕ, _+_, _-_, _<_, _≤_}
+use Prim.Native.Nat.{ℕ, _+_, _-_, _<_}
 use mathlib.Core.Bool.{Bool, true, false, cond, _&&_}
-use mathlib.Core.List.{List}
-use mathlib.Core.Path.{_≡_, refl, sym, _∙_}
+use mathlib.Core.List.{List, []}
+use mathlib.Core.Path.{_≡_, refl, sym, ap, _∙_, subst}
 use native.Mathlib.Omega.{arith}
 use lib.Dec.{eqb, ltb}
 use lib.ListN.{length, getD}
 use borrow.Author.Tests.{lt-ltb, le-ltb, le-leb, ltb-true}
 use Rattle.terms.specs.Bits.{same}
 use Rattle.terms.specs.Refusal.{numberOf}
-use Rattle.terms.specs.Told.{Told, refused, refusing, judge}
+use Rattle.terms.specs.Told.{Told, refused, accepted}
 use Rattle.terms.specs.declared.address.Page.{Page}
 use Rattle.terms.specs.declared.verdict.Verdict.{Verdict}
 use Rattle.terms.specs.declared.verdict.Verdict.the-variants.{Final, Loop, Outside}
@@ -145,43 +145,63 @@ pub may-stop : (n : ℕ) (s : Publisher) (k : ℕ) (good reply : Bool) → MaySt
 may-stop n s k good reply =
     wanted-stop (s .mode) n (wantedOf (planIn s) k) good reply (reads-crc (s .mode) (s .last .0) (s .target .0) (s .used) (s .new) k)
 
+-- a refusal that stops is not 2, and 6 only where CRCs are read
+abbrev Fine : WriteMode → ℕ → Bool
+Fine mode number = cond (eqb number 2) false (cond (eqb number 6) (readsCrc mode) true)
+
+stop-fine : (mode : WriteMode) (n : ℕ) (r : Refusal) → isStop mode n r ≡ true → Fine mode (numberOf r) ≡ true
+unfolding isStop
+stop-fine mode n ImageLength h = refl
+stop-fine mode n StateRange h = h
+stop-fine mode n PageNumber h = refl
+stop-fine mode n LoopRefusal h = refl
+stop-fine mode n (OutsideRefusal x) h = refl
+stop-fine mode n Crc16 h = h
+stop-fine mode n ReadBack h = refl
+stop-fine mode n NoFreePage h = refl
+stop-fine mode n (RedirectionProtected l) h = refl
+stop-fine mode n BufferLength h = refl
+stop-fine mode n Sheet h = refl
+stop-fine mode n NoPresence h = refl
+stop-fine mode n Crc8 h = refl
+stop-fine mode n Family h = refl
+stop-fine mode n Header h = refl
+stop-fine mode n Latitude h = refl
+stop-fine mode n Column h = refl
+stop-fine mode n NoValue h = refl
+stop-fine mode n (DataProtected l) h = refl
+
+abbrev FineTold : WriteMode → Told Next → Type 0
+FineTold mode (refused number values) = Fine mode number ≡ true
+FineTold mode (accepted a) = Unit {0}
+
+-- ---- a turn keeps to the ranges, and tells no other number
+
+abbrev FitStepped : ℕ → WriteMode → Stepped → Type 0
+FitStepped n mode t = (inRange n (t .state) ≡ true) × FineTold mode (turnTold (t .answer))
+
 module _ (n : ℕ) (s : Publisher) (low : isPage n (s .last .0) ≡ true) (high : isPage n (s .target .0) ≡ true) where
   within : (g : Stage) → stageInRange (s .mode) n g ≡ true → inRange n (atStage s g) ≡ true
   unfolding inRange
   within g h = simp (low, high, h)
 
-  pub running-within : (k : ℕ) (good : Bool) → k ≤ totalIn s → inRange n (atStage s (Running k good)) ≡ true
-  unfolding stageInRange
-  running-within k good le = within (Running k good) (le-leb k (totalIn s) le)
-
-  pub done-within : inRange n (atStage s Done) ≡ true
-  unfolding stageInRange
-  done-within = within Done refl
-
-  pub stopped-within : (r : Refusal) → isStop (s .mode) n r ≡ true → inRange n (atStage s (Stopped r)) ≡ true
-  unfolding stageInRange
-  stopped-within r h = within (Stopped r) h
-
-  abbrev FitStepped : Stepped → Type 0
-  FitStepped t = inRange n (t .state) ≡ true
-
-  gone-fit : (k : ℕ) (good : Bool) → FitStepped (goneOn (totalIn s) (planIn s) s k good)
-  unfolding goneOn
+  gone-fit : (k : ℕ) (good : Bool) → FitStepped n (s .mode) (goneOn (totalIn s) (planIn s) s k good)
+  unfolding goneOn stageInRange
   gone-fit k good =
-      either FitStepped (ltb k (totalIn s)) _ _
-      (λ e. running-within (k + 1) good (omega (arith, ltb-true k (totalIn s) e)))
-      (λ _. done-within)
+      either (FitStepped n (s .mode)) (ltb k (totalIn s)) _ _
+      (λ e. (within (Running (k + 1) good) (le-leb (k + 1) (totalIn s) (omega (arith, ltb-true k (totalIn s) e))), tt))
+      (λ _. (within Done refl, tt))
 
-  judged-fit : (k : ℕ) (j : Judged) → MayStop (s .mode) n j → FitStepped (judgedTurn (totalIn s) (planIn s) s k j)
-  unfolding judgedTurn
+  judged-fit : (k : ℕ) (j : Judged) → MayStop (s .mode) n j → FitStepped n (s .mode) (judgedTurn (totalIn s) (planIn s) s k j)
+  unfolding judgedTurn stageInRange
   judged-fit k (On good) h = gone-fit k good
-  judged-fit k (Stop r) h = stopped-within r h
+  judged-fit k (Stop r) h = (within (Stopped r) h, stop-fine (s .mode) n r h)
 
-  turn-fit : (g : Stage) (reply : Bool) → inRange n s ≡ true → FitStepped (turnOf (totalIn s) (planIn s) s g reply)
-  unfolding turnOf
-  turn-fit (Running k good) reply h = judged-fit k _ (may-stop n s k good reply)
-  turn-fit Done reply h = h
-  turn-fit (Stopped r) reply h = h
+  turn-fit : (g : Stage) (reply : Bool) → inRange n s ≡ true → stageInRange (s .mode) n g ≡ true → FitStepped n (s .mode) (turnOf (totalIn s) (planIn s) s g reply)
+  unfolding turnOf stageInRange
+  turn-fit (Running k good) reply h f = judged-fit k _ (may-stop n s k good reply)
+  turn-fit Done reply h f = (h, tt)
+  turn-fit (Stopped r) reply h f = (h, stop-fine (s .mode) n r f)
 
 -- within the ranges a call takes its turn
 abbrev pub turn : Publisher → Bool → Stepped
@@ -195,67 +215,32 @@ pub told-is : (n : ℕ) (s : Publisher) (reply : Bool) → inRange n s ≡ true 
 unfolding callAnswer
 told-is n s reply h = simp h
 
+call-fit : (n : ℕ) (s : Publisher) (reply : Bool) → inRange n s ≡ true → FitStepped n (s .mode) (turn s reply)
+call-fit n s reply h = let f = bounds n s h in turn-fit n s (f .last-page) (f .target-page) (s .stage) reply h (f .stage)
+
 pub call-keeps : (n : ℕ) (s : Publisher) (reply : Bool) → inRange n s ≡ true → inRange n (callState n s reply) ≡ true
-call-keeps n s reply h = let f = bounds n s h in rw (called-is n s reply h) (turn-fit n s (f .last-page) (f .target-page) (s .stage) reply h)
+call-keeps n s reply h = rw (called-is n s reply h) (call-fit n s reply h .0)
 
--- ---- a publisher that reads no CRC
+pub call-outside : (n : ℕ) (s : Publisher) (reply : Bool) → inRange n s ≡ false → (callAnswer n s reply ≡ refused 2 []) × (callState n s reply ≡ s)
+unfolding callAnswer callState
+call-outside n s reply h = (simp h, simp h)
 
--- a refusal that stops and has the number 6 says that CRCs are read
-six-stops : (n : ℕ) (r : Refusal) → isStop Quick n r ≡ true → numberOf r ≡ 6 → false ≡ true
-unfolding isStop readsCrc
-six-stops n ImageLength h e = absurd (omega arith)
-six-stops n StateRange h e = absurd (omega arith)
-six-stops n PageNumber h e = absurd (omega arith)
-six-stops n LoopRefusal h e = absurd (omega arith)
-six-stops n (OutsideRefusal x) h e = absurd (omega arith)
-six-stops n Crc16 h e = h
-six-stops n ReadBack h e = absurd (omega arith)
-six-stops n NoFreePage h e = absurd (omega arith)
-six-stops n (RedirectionProtected l) h e = absurd (omega arith)
-six-stops n BufferLength h e = absurd (omega arith)
-six-stops n Sheet h e = absurd (omega arith)
-six-stops n NoPresence h e = absurd (omega arith)
-six-stops n Crc8 h e = absurd (omega arith)
-six-stops n Family h e = absurd (omega arith)
-six-stops n Header h e = absurd (omega arith)
-six-stops n Latitude h e = absurd (omega arith)
-six-stops n Column h e = absurd (omega arith)
-six-stops n NoValue h e = absurd (omega arith)
-six-stops n (DataProtected l) h e = absurd (omega arith)
-
--- what is told is not 6
-abbrev NotCrc : Told Next → Type 0
-NotCrc a = (values : List ℕ) → a ≡ refused 6 values → ⊥
-
-not-crc : (n : ℕ) (r : Refusal) → isStop Quick n r ≡ true → NotCrc (refusing r)
-not-crc n r h values e =
-    let number : numberOf r ≡ 6 = cc in
-    let never : false ≡ true = six-stops n r h number in
+pub call-never : (n : ℕ) (s : Publisher) (reply : Bool) (values : List ℕ) → inRange n s ≡ true → callAnswer n s reply ≡ refused 2 values → ⊥
+call-never n s reply values h e =
+    let never : false ≡ true = subst (FineTold (s .mode)) (sym (told-is n s reply h) ∙ e) (call-fit n s reply h .1) in
     let z : _≡_ {A = ℕ} 0 1 = cc in
     omega arith
 
-module _ (n : ℕ) (s : Publisher) (quick : s .mode ≡ Quick) where
-  gone-not : (k : ℕ) (good : Bool) → NotCrc (turnTold (goneOn (totalIn s) (planIn s) s k good .answer))
-  unfolding goneOn
-  gone-not k good =
-      either (λ (t : Stepped). NotCrc (turnTold (t .answer))) (ltb k (totalIn s)) _ _
-      (λ _. λ values e. let z : _≡_ {A = ℕ} 0 1 = cc in omega arith) (λ _. λ values e. let z : _≡_ {A = ℕ} 0 1 = cc in omega arith)
-
-  judged-not : (k : ℕ) (j : Judged) → MayStop (s .mode) n j → NotCrc (turnTold (judgedTurn (totalIn s) (planIn s) s k j .answer))
-  unfolding judgedTurn
-  judged-not k (On good) h = gone-not k good
-  judged-not k (Stop r) h = not-crc n r (rw quick at h)
-
-  turn-not : (g : Stage) (reply : Bool) → stageInRange (s .mode) n g ≡ true → NotCrc (turnTold (turnOf (totalIn s) (planIn s) s g reply .answer))
-  unfolding turnOf stageInRange
-  turn-not (Running k good) reply h = judged-not k _ (may-stop n s k good reply)
-  turn-not Done reply h = λ values e. let z : _≡_ {A = ℕ} 0 1 = cc in omega arith
-  turn-not (Stopped r) reply h = not-crc n r (rw quick at h)
-
-  pub call-not : (reply : Bool) → NotCrc (callAnswer n s reply)
-  unfolding callAnswer
-  call-not reply = go (inRange n s) refl
-    where
-      go : (t : Bool) → inRange n s ≡ t → NotCrc (judge t 2 (turnTold (turn s reply .answer)))
-      go true h = turn-not (s .stage) reply (bounds n s h .stage)
-      go false h = λ values e. let z : _≡_ {A = ℕ} 2 6 = cc in omega arith
+pub call-no-crc : (n : ℕ) (s : Publisher) (reply : Bool) (values : List ℕ) → s .mode ≡ Quick → callAnswer n s reply ≡ refused 6 values → ⊥
+unfolding readsCrc
+call-no-crc n s reply values quick e = go (inRange n s) refl
+  where
+    go : (t : Bool) → inRange n s ≡ t → ⊥
+    go true h =
+        let never : readsCrc (s .mode) ≡ true = subst (FineTold (s .mode)) (sym (told-is n s reply h) ∙ e) (call-fit n s reply h .1) in
+        let z : _≡_ {A = ℕ} 0 1 = ap (λ (b : Bool). cond b 1 0) (sym (ap readsCrc quick) ∙ never) in
+        omega arith
+    go false h =
+        let other : _≡_ {A = Told Next} (refused 2 []) (refused 6 values) = sym (call-outside n s reply h .0) ∙ e in
+        let z : _≡_ {A = ℕ} 2 6 = cc in
+        omega arith
