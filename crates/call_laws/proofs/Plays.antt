@@ -153,7 +153,7 @@ module _ (mode : WriteMode) where
   unfolding writeBytes bytesEvents
   bytes-keep crcOf [] a old h = h
   bytes-keep crcOf (byte ∷ bytes) a old h =
-      rw append-assoc (byte-keeps (crcOf byte) old byte (bytes-keep (λ later. crc16Loaded (a + 1) (later ∷ [])) bytes (a + 1) old h))
+      rw (append-assoc (byteEvents mode byte)) (byte-keeps (crcOf byte) old byte (bytes-keep (λ later. crc16Loaded (a + 1) (later ∷ [])) bytes (a + 1) old h))
 
   write-keeps : (select : List ℕ) (space : Space) (a old : ℕ) (bytes : List ℕ) {on : Script} {es : List Event} → Keeps on es
       → Keeps (write mode select space a old bytes on) (writeEvents mode select space a bytes ++ es)

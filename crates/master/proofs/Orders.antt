@@ -8,7 +8,7 @@ use native.Mathlib.Omega.{arith}
 use lib.ListN.{length, take, replicate}
 use lib.Seq.{take-nil}
 use Rattle.terms.specs.Bits.{one}
-use Rattle.terms.specs.Told.{Told, accepted}
+use Rattle.terms.specs.Told.{Told, refused, accepted}
 use Rattle.bus.specs.declared.Event.{Event}
 use Rattle.bus.specs.declared.Event.the-variants.{Reset}
 use Rattle.bus.specs.Slots.{slots, reading}
@@ -98,3 +98,8 @@ telling-events [] values zero = refl
 telling-events [] values (suc k) = telling-events [] values k ∙ take-nil k
 telling-events (e ∷ es) values zero = refl
 telling-events (e ∷ es) values (suc k) = ap (λ (l : List Event). e ∷ l) (telling-events es values k)
+
+-- a script that has stopped
+pub stopped-told : (number : ℕ) (values : List ℕ) (rs : List Bool) → play (stops number values) rs ≡ replicate (length rs) (refused number values)
+stopped-told number values [] = refl
+stopped-told number values (r ∷ rs) = ap (λ (l : List (Told Next)). refused number values ∷ l) (stopped-told number values rs)

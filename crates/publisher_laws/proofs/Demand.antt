@@ -2,7 +2,7 @@
 use Prim.Native.Nat.{ℕ, _+_, _-_, _%_, _<_, _≤_}
 use mathlib.Core.Path.{_≡_, refl, sym, ap, ap₂, _∙_, subst}
 use mathlib.Core.Bool.{Bool, true, false, cond}
-use mathlib.Core.List.{List, [], _∷_}
+use mathlib.Core.List.{List, [], _∷_, _++_, map}
 use native.Mathlib.Omega.{arith}
 use lib.Dec.{ltb, lit<, lit≤}
 use lib.ListN.{length, getD, take, replicate}
@@ -18,16 +18,17 @@ use Rattle.bus.specs.declared.Event.the-variants.{Reset, PowerLoss}
 use Rattle.chain.specs.Walk.{final, walkOf}
 use Rattle.memory.proofs.Pages.{copied-same}
 use Rattle.update_laws.specs.Update.{readOf, moved, movedBy}
-use Rattle.master.specs.Next.{Next}
-use Rattle.plan.specs.declared.Step.{Step}
+use Rattle.master.specs.Next.{Next, send, tells, outOf}
+use Rattle.master.specs.Joint.{Begins, Good}
+use Rattle.master.specs.Script.{play, telling, playOn, Played}
+use Rattle.master.proofs.Orders.{telling-all, stopped-told}
 use Rattle.plan.specs.Plan.{planOf, totalOf, shownOf}
 use Rattle.publisher.specs.declared.Choice.{Choice}
 use Rattle.publisher.specs.declared.Choice.the-variants.{Refused, Accepted}
-use Rattle.publisher.specs.declared.Stage.the-variants.{Running}
 use Rattle.publisher.specs.declared.Publisher.{Publisher}
 use Rattle.publisher.specs.Start.{choiceOf, choiceTold, choiceState, ready, bitmapByte, startState}
-use Rattle.publisher.specs.Call.{planIn, inRange}
-use Rattle.chip.specs.Run.{Chip, run}
+use Rattle.publisher.specs.Call.{planIn}
+use Rattle.chip.specs.Run.{Chip, next, lineAt, run}
 use Rattle.chip_laws.specs.Session.{Ready, Bytes}
 use Rattle.chip_laws.proofs.Runs.{run-append}
 use Rattle.chip_laws.proofs.States.{image-kept}
@@ -35,8 +36,10 @@ use Rattle.plan_laws.specs.Plan.{stepEvents, Fits, Accepts, planFor, PlanLaws}
 use Rattle.plan_laws.proofs.Starts.{chosen-means}
 use Rattle.plan_laws.proofs.Laws.{plan-laws}
 use Rattle.plan_laws.proofs.Stretches.{events-length}
-use Rattle.call_laws.specs.Calls.{answersTo, Begins}
+use Rattle.call_laws.specs.Script.{publisherScript}
+use Rattle.call_laws.specs.Calls.{answersTo, Started, scriptIn, eventsIn}
 use Rattle.call_laws.proofs.Laws.{call-laws}
+use Rattle.call_laws.proofs.Plays.{chip-played}
 use Rattle.publisher_laws.specs.Demand.{returned, reaching, readAfter, Update, Demand3}
 
 -- a power loss leaves the image
@@ -65,28 +68,43 @@ module _ (n : ℕ) (whole : n % 8 ≡ 0) (some : 0 < n) (low : n ≤ 256) (mode 
     unfolding ready
     same = ap (planOf mode (l .0) (t .0) (bitmapByte n (c .image) (t .0))) (copied-same new (replicate 32 0) (laws .long))
 
-    within : inRange n state ≡ true
-    unfolding choiceState
-    within = rw (ok .chosen) at (call-laws n some .starts mode (c .image) new p)
+    started : Started n state
+    unfolding ready choiceState
+    started =
+        record {
+          stage = refl;
+          ranged = rw (ok .chosen) at (call-laws n some .starts mode (c .image) new p);
+          long = ap length (copied-same new (replicate 32 0) (laws .long)) ∙ laws .long;
+        }
 
-    running : state .stage ≡ Running 0 true
-    unfolding ready
-    running = refl
+    abbrev end : Told Next
+    end = accepted (tells (l .0 ∷ t .0 ∷ []))
 
-    size : length (planIn state) ≡ totalOf mode
+    -- on the chip, the script sends all its events, which are the plan's, and tells l and t
+    played : (stepEvents (planIn state) ≡ eventsIn state) × (playOn (next n) (lineAt n) (scriptIn state) c ≡ record { events = eventsIn state; told = end; bytes = [] })
     unfolding ready
-    size = ap length same ∙ laws .counted
+    played = chip-played n state c (subst (Fits n c) (sym same) (laws .fits))
 
-    first-of : Begins (stepEvents (planIn state)) (returned n state replies)
-    unfolding ready
-    first-of = call-laws n some .ordered state replies running within size
+    pub events-are : eventsIn state ≡ stepEvents (planFor n mode c new l t)
+    events-are = sym (played .0) ∙ ap stepEvents same
+
+    size : length (eventsIn state) ≡ totalOf mode
+    size = ap length events-are ∙ events-length (planFor n mode c new l t) ∙ laws .counted
+
+    -- with good replies, however many
+    pub joined-tells : Good (next n) (lineAt n) outOf c (answersTo n state replies) replies → answersTo n state replies ≡ telling (eventsIn state) end (length replies)
+    joined-tells good =
+        call-laws n some .plays-on (next n) (lineAt n) state c replies started good ∙ ap (λ (q : Played). telling (q .events) (q .told) (length replies)) (played .1)
+
+    first-of : Begins (eventsIn state) (returned n state replies)
+    first-of = call-laws n some .ordered state replies started
 
     reads : (m : ℕ) (cut : Bool) → m ≤ length (returned n state replies) → (q : ℕ) → q < n → (q ≡ t .0 → ⊥)
         → readAfter n c (returned n state replies) m cut q
         ≡ cond (ltb m (shownOf mode)) (readOf n (c .image) q) (moved (l .0) (t .0) new (readOf n (c .image) q))
     reads m cut le q lt d =
         let takes : take m (returned n state replies) ≡ take m (stepEvents (planFor n mode c new l t)) =
-        sym (take-append-le m (returned n state replies) (first-of .rest) le) ∙ ap (take m) (sym (first-of .is) ∙ ap stepEvents same) in
+        sym (take-append-le m (returned n state replies) (first-of .rest) le) ∙ ap (take m) (sym (first-of .is) ∙ events-are) in
         ap (λ (img : List ℕ). readOf n img q) (cut-image n c (returned n state replies) m cut ∙ ap (λ (es : List Event). run n c es .image) takes)
         ∙ laws .reads m q lt d
 
@@ -105,9 +123,12 @@ module _ (n : ℕ) (whole : n % 8 ≡ 0) (some : 0 < n) (low : n ≤ 256) (mode 
           changed = λ m cut le ge.
               reads m cut le p below (laws .apart) ∙ simp (le-ltb m (shownOf mode) ge) (moved-final n (c .image) new p l (t .0) (laws .hops) (laws .asked));
           ordered = first-of;
-          counted = events-length (planIn state) ∙ size;
-          shows = ap (λ (ss : List Step). getD (stepEvents ss) (shownOf mode - 1) Reset) same ∙ laws .shows;
-          ends = λ good enough. call-laws n some .complete state c replies running within size (subst (Fits n c) (sym same) (laws .fits)) good enough;
+          counted = size;
+          shows = ap (λ (es : List Event). getD es (shownOf mode - 1) Reset) events-are ∙ laws .shows;
+          ends = λ good enough.
+              joined-tells good
+              ∙ telling-all (eventsIn state) end (length replies) (omega (arith, size))
+              ∙ ap (λ (k : ℕ). map (λ (e : Event). accepted (send e)) (eventsIn state) ++ replicate (length replies - k) end) size;
         }
 
   abbrev choice : Choice
@@ -125,7 +146,9 @@ module _ (n : ℕ) (whole : n % 8 ≡ 0) (some : 0 < n) (low : n ≤ 256) (mode 
   refuses k values (Refused r) e a =
       let number : numberOf r ≡ k = cc in
       let given : valuesOf r ≡ values = cc in
-      call-laws n some .refuses mode (c .image) new p r replies e
+      call-laws n some .plays mode (c .image) new p replies
+      ∙ ap (λ (ch : Choice). play (publisherScript n mode (c .image) new ch) replies) e
+      ∙ stopped-told (numberOf r) (valuesOf r) replies
       ∙ ap₂ (λ (x : ℕ) (v : List ℕ). replicate {A = Told Next} (length replies) (refused x v)) number given
 
   pub demand-3 : Ready n c → Bytes new → Demand3 n mode c new p replies

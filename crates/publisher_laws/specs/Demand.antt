@@ -1,7 +1,8 @@
 -- Demand 3: one claim about a whole run. It speaks of the definitions to which the contracts of the chip's event entry (eventAnswer,
 -- eventState, eventImage, in `next` and `run`), the publisher's start (startAnswer, startState) and its later calls (callAnswer, callState,
--- in `answersTo`) equate their answers. It is stated once for every kind of publisher: n is the page count, and mode is the mode of its
--- writes, which says what its plan is (`planOf`), how many events that has (`totalOf`) and which of them is the visible one (`shownOf`).
+-- in `answersTo`) equate their answers, and of the update's events by its script (`eventsIn`). It is stated once for every kind of
+-- publisher: n is the page count, and mode is the mode of its writes, which says how many events an update has (`totalOf`) and which of
+-- them is the visible one (`shownOf`).
 use Prim.Native.Nat.{ℕ, _+_, _-_, _<_, _≤_}
 use mathlib.Core.Path.{_≡_}
 use mathlib.Core.Bool.{Bool, true, false, cond}
@@ -15,14 +16,13 @@ use Rattle.bus.specs.declared.Event.{Event}
 use Rattle.bus.specs.declared.Event.the-variants.{Reset, Pulse, PowerLoss}
 use Rattle.chain.specs.Walk.{final, walkOf}
 use Rattle.update_laws.specs.Update.{Reading, readOf, moved}
-use Rattle.master.specs.Next.{send, tells, eventsOf}
+use Rattle.master.specs.Next.{send, tells, outOf, eventsOf}
+use Rattle.master.specs.Joint.{Begins, Good}
 use Rattle.publisher.specs.declared.Publisher.{Publisher}
 use Rattle.publisher.specs.Start.{startAnswer, startState}
-use Rattle.publisher.specs.Call.{planIn}
-use Rattle.chip.specs.Run.{Chip, run}
+use Rattle.chip.specs.Run.{Chip, next, lineAt, run}
 use Rattle.plan.specs.Plan.{totalOf, shownOf}
-use Rattle.plan_laws.specs.Plan.{stepEvents}
-use Rattle.call_laws.specs.Calls.{answersTo, Good, Begins}
+use Rattle.call_laws.specs.Calls.{answersTo, eventsIn}
 
 -- the events that the later calls returned
 abbrev pub returned : ℕ → Publisher → List Bool → List Event
@@ -54,14 +54,14 @@ pub record Update (n : ℕ) (mode : WriteMode) (c : Chip) (new : List ℕ) (p : 
   pub old : (m : ℕ) (cut : Bool) → m ≤ length (returned n s replies) → m < shownOf mode → readAfter n c (returned n s replies) m cut p ≡ readOf n (c .image) p
   pub changed : (m : ℕ) (cut : Bool) → m ≤ length (returned n s replies) → shownOf mode ≤ m
       → readAfter n c (returned n s replies) m cut p ≡ record { verdict = final (s .target .0) (hops + 1); bytes = new }
-  -- the events returned are the first of the plan, which has so many; the visible one is a pulse
-  pub ordered : Begins (stepEvents (planIn s)) (returned n s replies)
-  pub counted : length (stepEvents (planIn s)) ≡ totalOf mode
-  pub shows : getD (stepEvents (planIn s)) (shownOf mode - 1) Reset ≡ Pulse
-  -- with good replies, and more later calls than events in the plan, they return every event of the plan, and then L and T
-  pub ends : Good n c s replies → totalOf mode < length replies
+  -- the events returned are the first of the update's, which are so many; the visible one is a pulse
+  pub ordered : Begins (eventsIn s) (returned n s replies)
+  pub counted : length (eventsIn s) ≡ totalOf mode
+  pub shows : getD (eventsIn s) (shownOf mode - 1) Reset ≡ Pulse
+  -- with good replies, and more later calls than events, they return every event of the update, and then L and T
+  pub ends : Good (next n) (lineAt n) outOf c (answersTo n s replies) replies → totalOf mode < length replies
       → answersTo n s replies
-      ≡ map (λ (e : Event). accepted (send e)) (stepEvents (planIn s)) ++ replicate (length replies - totalOf mode) (accepted (tells (s .last .0 ∷ s .target .0 ∷ [])))
+      ≡ map (λ (e : Event). accepted (send e)) (eventsIn s) ++ replicate (length replies - totalOf mode) (accepted (tells (s .last .0 ∷ s .target .0 ∷ [])))
 
 pub record Demand3 (n : ℕ) (mode : WriteMode) (c : Chip) (new : List ℕ) (p : ℕ) (replies : List Bool) : Type 0 where
   pub update : startAnswer n (c .image) new p ≡ accepted [] → Update n mode c new p (startState n mode (c .image) new p) replies
