@@ -1,3 +1,2 @@
-mod Ended
 pub mod Joins
 mod Runs

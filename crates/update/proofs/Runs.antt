@@ -1,17 +1,66 @@
--- One turn of the loop over later calls.
+-- The loop over later calls, one turn at a time; and a publisher that has ended, which returns no event, however many calls follow.
 use Prim.Native.Nat.{ℕ, zero, suc, _-_, _≤_, _<_}
-use mathlib.Core.Path.{_≡_, refl, ap}
-use mathlib.Core.List.{List}
+use mathlib.Core.Path.{_≡_, refl, ap, _∙_}
+use mathlib.Core.Bool.{Bool, true, false, cond}
+use mathlib.Core.List.{List, [], _∷_}
 use native.Mathlib.Omega.{arith}
+use Rattle.terms.specs.Told.{Told, accepted, refused}
+use Rattle.bus.specs.declared.Event.{Event}
+use Rattle.master.specs.Next.{Next, send, tells, outOf, eventsOf}
+use Rattle.master.specs.Joint.{reached, drawnReplies}
+use Rattle.publisher.specs.declared.Stage.{Stage}
+use Rattle.publisher.specs.declared.Stage.the-variants.{Running, Done, Stopped}
+use Rattle.publisher.specs.declared.Publisher.{Publisher}
+use Rattle.publisher.specs.Call.{planIn, totalIn, turnOf, turnTold, inRange, callAnswer, callState}
+use Rattle.chip.specs.Run.{Chip, next, lineAt, run}
+use Rattle.call_laws.specs.Calls.{answersTo}
+use Rattle.call_laws.proofs.Ranges.{called-is, told-is, call-outside}
 use Rattle.update.specs.declared.Joined.{Joined}
-use Rattle.update.specs.Update.{turned, turnedImage, runFor}
+use Rattle.update.specs.Update.{chipOf, handedOn, handedImage, turned, turnedImage, isRunning, repliesFor, runFor}
+
+-- what a call told, handed on, is the first event of those that follow, if it is one
+handed : (n : ℕ) (c : Chip) (a : Told Next) (rest : List (Told Next)) → run n (reached (next n) (lineAt n) (outOf a) c) (eventsOf rest) ≡ run n c (eventsOf (a ∷ rest))
+unfolding run eventsOf
+handed n c (accepted (send e)) rest = refl
+handed n c (accepted (tells values)) rest = refl
+handed n c (refused k values) rest = refl
+
+one-turn : (n k : ℕ) (j : Joined) (img : List ℕ) → runFor n k (turned n j img) (turnedImage n j img) ≡ runFor n (suc k) j img
+unfolding runFor drawnReplies turned turnedImage handedOn handedImage
+one-turn n k j img =
+    ap (λ (c : Chip). c .image)
+    (handed n (chipOf j img) (callAnswer n (j .publisher) (j .reply))
+    (answersTo n (callState n (j .publisher) (j .reply)) (repliesFor n k (turned n j img) (turnedImage n j img))))
 
 pub run-next : (n left : ℕ) (j : Joined) (img : List ℕ) → 0 < left → runFor n (left - 1) (turned n j img) (turnedImage n j img) ≡ runFor n left j img
-unfolding runFor
 run-next n zero j img lt = absurd (omega arith)
-run-next n (suc k) j img lt = let e : suc k - 1 ≡ k = omega arith in ap (λ (i : ℕ). runFor n i (turned n j img) (turnedImage n j img)) e
+run-next n (suc k) j img lt = let e : suc k - 1 ≡ k = omega arith in ap (λ (i : ℕ). runFor n i (turned n j img) (turnedImage n j img)) e ∙ one-turn n k j img
 
 pub run-none : (n left : ℕ) (j : Joined) (img : List ℕ) → left ≤ 0 → img ≡ runFor n left j img
-unfolding runFor
+unfolding runFor drawnReplies run eventsOf
 run-none n zero j img le = refl
 run-none n (suc k) j img le = absurd (omega arith)
+
+-- ---- a publisher that has ended
+
+stays : (s : Publisher) (g : Stage) (reply : Bool) (rest : List (Told Next)) → isRunning g ≡ false
+    → (turnOf (totalIn s) (planIn s) s g reply .state ≡ s) × (eventsOf (turnTold (turnOf (totalIn s) (planIn s) s g reply .answer) ∷ rest) ≡ eventsOf rest)
+unfolding isRunning turnOf eventsOf
+stays s (Running k good) reply rest h = absurd (let z : _≡_ {A = ℕ} 1 0 = ap (λ (b : Bool). cond b 1 0) h in omega arith)
+stays s Done reply rest h = (refl, refl)
+stays s (Stopped r) reply rest h = (refl, refl)
+
+silent : (n : ℕ) (s : Publisher) → isRunning (s .stage) ≡ false → (rs : List Bool) → eventsOf (answersTo n s rs) ≡ []
+unfolding eventsOf
+silent n s h [] = refl
+silent n s h (r ∷ rs) = go (inRange n s) refl (silent n s h rs)
+  where
+    go : (b : Bool) → inRange n s ≡ b → eventsOf (answersTo n s rs) ≡ [] → eventsOf (callAnswer n s r ∷ answersTo n (callState n s r) rs) ≡ []
+    go true e more =
+        let t = stays s (s .stage) r (answersTo n s rs) h in
+        rw (told-is n s r e, called-is n s r e, t .0) (t .1 ∙ more)
+    go false e more = let o = call-outside n s r e in rw (o .0, o .1) more
+
+pub run-ended : (n k : ℕ) (j : Joined) (img : List ℕ) → isRunning (j .publisher .stage) ≡ false → runFor n k j img ≡ img
+unfolding runFor run
+run-ended n k j img h = ap (λ (es : List Event). run n (chipOf j img) es .image) (silent n (j .publisher) h (repliesFor n k j img))

@@ -1,5 +1,5 @@
 -- A whole update on an image: the publisher joined to a chip, and what the image then reads as. n is the page count.
-use Prim.Native.Nat.{ℕ, zero, suc, _<_, _≤_}
+use Prim.Native.Nat.{ℕ, _<_, _≤_}
 use mathlib.Core.Path.{_≡_}
 use mathlib.Core.Bool.{Bool, true, false, cond}
 use mathlib.Core.List.{List, [], _∷_}
@@ -7,21 +7,21 @@ use lib.Dec.{ltb}
 use Rattle.terms.specs.Told.{Told, accepted, refusing}
 use Rattle.terms.specs.declared.address.Page.{Page}
 use Rattle.terms.specs.declared.write_mode.WriteMode.{WriteMode}
-use Rattle.bus.specs.declared.Event.{Event}
-use Rattle.master.specs.Next.{Next}
+use Rattle.master.specs.Next.{Next, outOf}
+use Rattle.master.specs.Joint.{reached, drew, drawnReplies}
 use Rattle.update_laws.specs.Update.{readOf, moved}
 use Rattle.publisher.specs.declared.Choice.{Choice}
 use Rattle.publisher.specs.declared.Choice.the-variants.{Refused, Accepted}
 use Rattle.publisher.specs.declared.Publisher.{Publisher}
 use Rattle.publisher.specs.declared.Stage.{Stage}
 use Rattle.publisher.specs.declared.Stage.the-variants.{Running, Done, Stopped}
-use Rattle.publisher.specs.Start.{choiceOf, ready}
+use Rattle.publisher.specs.Start.{choiceOf, startState}
 use Rattle.publisher.specs.Call.{callAnswer, callState}
 use Rattle.chip.specs.Event.{powerUp}
-use Rattle.chip.specs.Run.{Chip, next, lineAt}
+use Rattle.chip.specs.Run.{Chip, next, lineAt, run}
 use Rattle.plan.specs.Plan.{totalOf, shownOf}
 use Rattle.plan_laws.specs.Plan.{imageLeft}
-use Rattle.call_laws.specs.Calls.{chipAfter, lastDrawn}
+use Rattle.publisher_laws.specs.Demand.{returned}
 use Rattle.update.specs.declared.Joined.{Joined}
 use Rattle.update.specs.declared.Updated.{Updated}
 use Rattle.update.specs.declared.Updated.the-variants.{Refused as UpdateRefused, Ran}
@@ -30,20 +30,17 @@ use Rattle.update.specs.declared.Updated.the-variants.{Refused as Update
 abbrev pub chipOf : Joined → List ℕ → Chip
 chipOf j img = record { state = j .chip; image = img }
 
--- an event reaches the chip
-unfoldable pub reached : ℕ → Joined → Event → List ℕ → Joined
-reached n j e img = record { publisher = j .publisher; chip = next n (chipOf j img) e .state; reply = lineAt n (chipOf j img) e }
-
-unfoldable pub reachedImage : ℕ → Joined → Event → List ℕ → List ℕ
-reachedImage n j e img = next n (chipOf j img) e .image
-
--- what a call told is handed on
+-- what a call told is handed on: an event reaches the chip
 unfoldable pub handedOn : ℕ → Joined → Told Next → List ℕ → Joined
 handedOn n j answer img =
-    record { publisher = j .publisher; chip = chipAfter n (chipOf j img) answer .state; reply = lastDrawn n (chipOf j img) (j .reply) answer }
+    record {
+      publisher = j .publisher;
+      chip = reached (next n) (lineAt n) (outOf answer) (chipOf j img) .state;
+      reply = drew (next n) (lineAt n) (outOf answer) (chipOf j img) (j .reply);
+    }
 
 unfoldable pub handedImage : ℕ → Joined → Told Next → List ℕ → List ℕ
-handedImage n j answer img = chipAfter n (chipOf j img) answer .image
+handedImage n j answer img = reached (next n) (lineAt n) (outOf answer) (chipOf j img) .image
 
 -- one later call, with the reply that the last event drew
 abbrev pub calling : ℕ → Joined → Joined
@@ -61,10 +58,12 @@ isRunning (Running k good) = true
 isRunning Done = false
 isRunning (Stopped r) = false
 
--- the image after so many later calls
+-- the replies that so many later calls get, and the image after the events that they return
+abbrev pub repliesFor : ℕ → ℕ → Joined → List ℕ → List Bool
+repliesFor n k j img = drawnReplies (next n) (lineAt n) outOf (callState n) (callAnswer n) k (j .publisher) (chipOf j img) (j .reply)
+
 unfoldable pub runFor : ℕ → ℕ → Joined → List ℕ → List ℕ
-runFor n zero j img = img
-runFor n (suc k) j img = runFor n k (turned n j img) (turnedImage n j img)
+runFor n k j img = run n (chipOf j img) (returned n (j .publisher) (repliesFor n k j img)) .image
 
 -- before the first call: the start's state, and a chip at power-up; the first reply is not looked at
 abbrev pub opened : Publisher → List ℕ → Joined
@@ -84,12 +83,9 @@ choiceAnswer (Accepted l t) = accepted (l .0 ∷ t .0 ∷ [])
 abbrev pub updateAnswer : ℕ → List ℕ → List ℕ → ℕ → Told (List ℕ)
 updateAnswer n img new p = choiceAnswer (choiceOf n img new p)
 
-abbrev pub choiceImage : ℕ → WriteMode → List ℕ → List ℕ → List ℕ → ℕ → Choice → List ℕ
-choiceImage n mode number img new events (Refused r) = img
-choiceImage n mode number img new events (Accepted l t) = runFor n events (opened (ready n mode img new l t) number) img
-
+-- a start that refuses has a state that returns no event
 abbrev pub updatedImage : ℕ → WriteMode → List ℕ → List ℕ → List ℕ → ℕ → ℕ → List ℕ
-updatedImage n mode number img new p events = choiceImage n mode number img new events (choiceOf n img new p)
+updatedImage n mode number img new p events = runFor n events (opened (startState n mode img new p) number) img
 
 -- What the image then reads as: after a refusal it is the image as it was; else every page but T reads as at the start while fewer events
 -- than the visible one have been let through, and from it on as demand 3 says; and where all have been let through, it is the image that a

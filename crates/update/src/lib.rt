@@ -1,10 +1,12 @@
 // A whole update on a lent image: the publisher's start, and its later calls joined to a chip, with the power cut after so many events.
 ghost use mathlib.Core.Path.{_≡_};
 ghost use Rattle.bus.specs.declared.Event.{Event};
+ghost use Rattle.terms.specs.Told.{accepted};
+ghost use Rattle.master.specs.Next.{send};
 ghost use Rattle.publisher.specs.Call.{turnTold};
 ghost use Rattle.chip.specs.Event.{eventTold};
 ghost use Rattle.chip.specs.Run.{lineOf};
-ghost use Rattle.update.specs.Update.{reached, reachedImage, handedOn, handedImage, turned, turnedImage, isRunning, runFor, opened, updateTold, updateAnswer, updatedImage, ReadsAs};
+ghost use Rattle.update.specs.Update.{handedOn, handedImage, turned, turnedImage, isRunning, runFor, opened, updateTold, updateAnswer, updatedImage, ReadsAs};
 use bus::Event;
 use chip::event::State;
 use publisher::Publisher;
@@ -38,8 +40,8 @@ fn line_of(answer: chip::event::Answer) -> bool
 
 // An event reaches the chip.
 fn reach(j: Joined, e: Event, image: &mut [u8]) -> Joined
-    ensures joined { λ r. ⌜ r ≡ reached 64 j e (now (image .entry)) ⌝ }
-    ensures image { λ r. ⌜ now (image .exit) ≡ reachedImage 64 j e (now (image .entry)) ⌝ }
+    ensures joined { λ r. ⌜ r ≡ handedOn 64 j (accepted (send e)) (now (image .entry)) ⌝ }
+    ensures image { λ r. ⌜ now (image .exit) ≡ handedImage 64 j (accepted (send e)) (now (image .entry)) ⌝ }
 {
     let chip = j.chip;
     let publisher = j.publisher;

@@ -1,10 +1,10 @@
-use Rattle.update.specs.Update.{reached, reachedImage}
+use Rattle.update.specs.Update.{handedOn, handedImage}
 use borrow.Author.Needs.{needs}
 use Rattle.update.proofs.reach.Statement.{statement}
 use Rattle.update.proofs.reach.Tie as tie
 
 returns : tie.Need-returns
-unfolding reached reachedImage
+unfolding handedOn handedImage
 returns c =
     let ev = c .before .before .before .before .event .ensures in
     (simp (c .line-of .ensures, ev .0, ev .1 .0), simp (ev .1 .1))

@@ -5,8 +5,7 @@ use borrow.Author.Needs.{needs}
 use borrow.Author.Tests.{not-true}
 use Rattle.update.specs.declared.Joined.{Joined}
 use Rattle.update.specs.Update.{turned, runFor}
-use Rattle.update.proofs.Ended.{run-ended}
-use Rattle.update.proofs.Runs.{run-next, run-none}
+use Rattle.update.proofs.Runs.{run-next, run-none, run-ended}
 use Rattle.update.proofs.run.Statement.{statement}
 use Rattle.update.proofs.run.Tie as tie
 
