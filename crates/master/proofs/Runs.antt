@@ -1,5 +1,5 @@
 -- Whole runs of a script, from its beginning to its end, put together and taken apart by the parts that scripts are made of.
-use Prim.Native.Nat.{ℕ, zero, suc, _+_, _*_, _/_, _%_, _^_, _<_, _≤_}
+use Prim.Native.Nat.{ℕ, zero, suc, _+_, _*_, _/_, _^_, _<_, _≤_}
 use mathlib.Core.Bool.{Bool, true, false, not}
 use mathlib.Core.List.{List, [], _∷_, _++_, append-assoc}
 use mathlib.Core.Path.{_≡_, refl, sym, ap, ap₂, _∙_, subst, subst₂}
@@ -7,10 +7,10 @@ use native.Mathlib.Omega.{arith}
 use native.Mathlib.Nat.{pow-succ'}
 use lib.Dec.{eqb}
 use lib.ListN.{length, getD, replicate-append-replicate}
-use borrow.Author.Tests.{eq-eqb, ne-eqb, eqb-true}
+use borrow.Author.Tests.{eq-eqb, eqb-true}
 use Rattle.terms.specs.Bits.{one, odd, bitsOf, bitsOfBytes}
 use Rattle.terms.specs.Told.{Told, refused, accepted}
-use Rattle.terms.proofs.Values.{one-odd}
+use Rattle.terms.proofs.Values.{one-le, odd-of, one-odd}
 use Rattle.bus.specs.declared.Event.{Event}
 use Rattle.bus.specs.declared.Event.the-variants.{Reset, Slot}
 use Rattle.bus.specs.Slots.{slots, ones, reading}
@@ -24,14 +24,6 @@ pub data Runs : Script → List Bool → List Event → Told Next → List ℕ �
   given : {values bytes : List ℕ} → Runs (gives values bytes) [] [] (accepted (tells values)) bytes
   sent : {e : Event} {on : Bool → Script} {r : Bool} {rs : List Bool} {es : List Event} {told : Told Next} {bytes : List ℕ} → Runs (on r) rs es told bytes
       → Runs (sends e on) (r ∷ rs) (e ∷ es) told bytes
-
-one-le : (b : Bool) → one b ≤ 1
-one-le true = omega arith
-one-le false = omega arith
-
-odd-of : (b : Bool) (v : ℕ) → odd (one b + 2 * v) ≡ b
-odd-of true v = eq-eqb ((1 + 2 * v) % 2) 1 (omega arith)
-odd-of false v = ne-eqb ((0 + 2 * v) % 2) 1 (λ e. omega arith)
 
 -- each a byte
 abbrev Small : List ℕ → Type 0

@@ -11,7 +11,7 @@ use Rattle.terms.specs.Told.{Told, refused}
 use Rattle.terms.specs.Refusal.{numberOf}
 use Rattle.terms.specs.declared.refusal.Refusal.{Refusal}
 use Rattle.master.specs.Next.{Next}
-use Rattle.master.proofs.Two.{state-range}
+use Rattle.terms.proofs.Refusals.{state-range}
 use Rattle.number_read.specs.declared.Phase.{Phase}
 use Rattle.number_read.specs.declared.Phase.the-variants.{Begin, Presence, Command, Receive, Closing, Done, Stopped}
 use Rattle.number_read.specs.declared.NumberRead.{NumberRead}

@@ -13,7 +13,7 @@ use Rattle.terms.specs.declared.address.Page.{Page}
 use Rattle.terms.specs.declared.refusal.Refusal.{Refusal}
 use Rattle.memory.specs.Layout.{isPage}
 use Rattle.chain.specs.Walk.{namedBy}
-use Rattle.master.proofs.Two.{state-range}
+use Rattle.terms.proofs.Refusals.{state-range}
 use Rattle.page_read.specs.declared.Part.{Part}
 use Rattle.page_read.specs.declared.Part.the-variants.{Redirection, RedirectionCrc, Data, DataCrc}
 use Rattle.page_read.specs.declared.Phase.{Phase}

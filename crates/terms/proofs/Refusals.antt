@@ -1,7 +1,7 @@
 -- A refusal's number and values say which refusal it is.
 use Prim.Native.Nat.{ℕ}
 use mathlib.Core.Bool.{cond}
-use mathlib.Core.Path.{_≡_, refl, sym, ap₂, _∙_}
+use mathlib.Core.Path.{_≡_, refl, sym, ap, ap₂, _∙_}
 use mathlib.Core.List.{List}
 use lib.Dec.{eqb}
 use lib.ListN.{getD}
@@ -56,3 +56,8 @@ back (DataProtected l) = refl
 
 pub same-refusal : (r s : Refusal) → numberOf r ≡ numberOf s → valuesOf r ≡ valuesOf s → r ≡ s
 same-refusal r s e v = sym (back r) ∙ ap₂ refusalOf e v ∙ back s
+
+-- number 2 is that of one refusal alone
+pub state-range : (r : Refusal) → numberOf r ≡ 2 → r ≡ StateRange
+unfolding refusalOf
+state-range r e = sym (back r) ∙ ap (λ (k : ℕ). refusalOf k (valuesOf r)) e

@@ -15,11 +15,11 @@ abbrev pub valueOf : List Bool → ℕ
 valueOf [] = 0
 valueOf (b ∷ bs) = one b + 2 * valueOf bs
 
-one-le : (b : Bool) → one b ≤ 1
+pub one-le : (b : Bool) → one b ≤ 1
 one-le true = omega arith
 one-le false = omega arith
 
-odd-of : (b : Bool) (v : ℕ) → odd (one b + 2 * v) ≡ b
+pub odd-of : (b : Bool) (v : ℕ) → odd (one b + 2 * v) ≡ b
 odd-of true v = eq-eqb ((1 + 2 * v) % 2) 1 (omega arith)
 odd-of false v = ne-eqb ((0 + 2 * v) % 2) 1 (λ e. omega arith)
 
