@@ -56,7 +56,7 @@ module _ (mode : WriteMode) (c : Chip) (new : List ℕ) (p : ℕ) (l t : Page) (
   unfolding runFor
   run-image k =
       let drawn = repliesFor 64 k joined (c .image) in
-      let good = script-laws .joined (next 64) (lineAt 64) (callState 64) (callAnswer 64) state c true k in
+      let good = script-laws .drawn (next 64) (lineAt 64) (callState 64) (callAnswer 64) state c true k in
       ap (λ (es : List Event). run 64 c es .image)
       (ap eventsOf (joined-tells 64 refl (lit< tt) (lit≤ tt) mode c new p drawn l t ok (good .1))
       ∙ telling-events (eventsIn state) (l .0 ∷ t .0 ∷ []) (length drawn)
