@@ -96,29 +96,11 @@ module _ (n : ℕ) (some : 0 < n) (mode : WriteMode) (img new : List ℕ) where
 
 -- ---- what a call keeps
 
--- what the ranges ask of a state
-pub record Bounds (n : ℕ) (s : Publisher) : Type 0 where
-  pub last-page : isPage n (s .last .0) ≡ true
-  pub target-page : isPage n (s .target .0) ≡ true
-  pub stage : stageInRange (s .mode) n (s .stage) ≡ true
-
-cond-first : (t x : Bool) → cond t x false ≡ true → t ≡ true
-cond-first true x h = refl
-cond-first false x h = h
-
-cond-second : (t x : Bool) → cond t x false ≡ true → x ≡ true
-cond-second true x h = h
-cond-second false x h = cc
-
-pub bounds : (n : ℕ) (s : Publisher) → inRange n s ≡ true → Bounds n s
-unfolding inRange
-bounds n s h =
-    let r = cond-second (isPage n (s .last .0)) _ h in
-    record {
-      last-page = cond-first (isPage n (s .last .0)) _ h;
-      target-page = cond-first (isPage n (s .target .0)) _ r;
-      stage = cond-second (isPage n (s .target .0)) _ r;
-    }
+-- what the ranges ask of the stage, and that they ask nothing else that changes
+stage-held : (a b g : Bool) → cond a (cond b g false) false ≡ true → (g ≡ true) × ((h : Bool) → h ≡ true → cond a (cond b h false) false ≡ true)
+stage-held true true g e = (e, λ h f. f)
+stage-held true false g e = (cc, λ h f. e)
+stage-held false b g e = (cc, λ h f. e)
 
 -- a refusal for a reply is one that stops
 abbrev pub MayStop : WriteMode → ℕ → Judged → Type 0
@@ -180,28 +162,30 @@ FineTold mode (accepted a) = Unit {0}
 abbrev FitStepped : ℕ → WriteMode → Stepped → Type 0
 FitStepped n mode t = (inRange n (t .state) ≡ true) × FineTold mode (turnTold (t .answer))
 
-module _ (n : ℕ) (s : Publisher) (low : isPage n (s .last .0) ≡ true) (high : isPage n (s .target .0) ≡ true) where
-  within : (g : Stage) → stageInRange (s .mode) n g ≡ true → inRange n (atStage s g) ≡ true
+module _ (n : ℕ) (s : Publisher) (h : inRange n s ≡ true) where
+  held : (stageInRange (s .mode) n (s .stage) ≡ true) × ((g : Stage) → stageInRange (s .mode) n g ≡ true → inRange n (atStage s g) ≡ true)
   unfolding inRange
-  within g h = simp (low, high, h)
+  held =
+      let p = stage-held (isPage n (s .last .0)) (isPage n (s .target .0)) (stageInRange (s .mode) n (s .stage)) h in
+      (p .0, λ g e. p .1 (stageInRange (s .mode) n g) e)
 
   gone-fit : (k : ℕ) (good : Bool) → FitStepped n (s .mode) (goneOn (totalIn s) (planIn s) s k good)
   unfolding goneOn stageInRange
   gone-fit k good =
       either (FitStepped n (s .mode)) (ltb k (totalIn s)) _ _
-      (λ e. (within (Running (k + 1) good) (le-leb (k + 1) (totalIn s) (omega (arith, ltb-true k (totalIn s) e))), tt))
-      (λ _. (within Done refl, tt))
+      (λ e. (held .1 (Running (k + 1) good) (le-leb (k + 1) (totalIn s) (omega (arith, ltb-true k (totalIn s) e))), tt))
+      (λ _. (held .1 Done refl, tt))
 
   judged-fit : (k : ℕ) (j : Judged) → MayStop (s .mode) n j → FitStepped n (s .mode) (judgedTurn (totalIn s) (planIn s) s k j)
   unfolding judgedTurn stageInRange
-  judged-fit k (On good) h = gone-fit k good
-  judged-fit k (Stop r) h = (within (Stopped r) h, stop-fine (s .mode) n r h)
+  judged-fit k (On good) f = gone-fit k good
+  judged-fit k (Stop r) f = (held .1 (Stopped r) f, stop-fine (s .mode) n r f)
 
-  turn-fit : (g : Stage) (reply : Bool) → inRange n s ≡ true → stageInRange (s .mode) n g ≡ true → FitStepped n (s .mode) (turnOf (totalIn s) (planIn s) s g reply)
+  turn-fit : (g : Stage) (reply : Bool) → stageInRange (s .mode) n g ≡ true → FitStepped n (s .mode) (turnOf (totalIn s) (planIn s) s g reply)
   unfolding turnOf stageInRange
-  turn-fit (Running k good) reply h f = judged-fit k _ (may-stop n s k good reply)
-  turn-fit Done reply h f = (h, tt)
-  turn-fit (Stopped r) reply h f = (h, stop-fine (s .mode) n r f)
+  turn-fit (Running k good) reply f = judged-fit k _ (may-stop n s k good reply)
+  turn-fit Done reply f = (h, tt)
+  turn-fit (Stopped r) reply f = (h, stop-fine (s .mode) n r f)
 
 -- within the ranges a call takes its turn
 abbrev pub turn : Publisher → Bool → Stepped
@@ -216,7 +200,7 @@ unfolding callAnswer
 told-is n s reply h = simp h
 
 call-fit : (n : ℕ) (s : Publisher) (reply : Bool) → inRange n s ≡ true → FitStepped n (s .mode) (turn s reply)
-call-fit n s reply h = let f = bounds n s h in turn-fit n s (f .last-page) (f .target-page) (s .stage) reply h (f .stage)
+call-fit n s reply h = turn-fit n s h (s .stage) reply (held n s h .0)
 
 pub call-keeps : (n : ℕ) (s : Publisher) (reply : Bool) → inRange n s ≡ true → inRange n (callState n s reply) ≡ true
 call-keeps n s reply h = rw (called-is n s reply h) (call-fit n s reply h .0)
@@ -225,10 +209,13 @@ pub call-outside : (n : ℕ) (s : Publisher) (reply : Bool) → inRange n s ≡ 
 unfolding callAnswer callState
 call-outside n s reply h = (simp h, simp h)
 
+told-fine : (n : ℕ) (s : Publisher) (reply : Bool) (number : ℕ) (values : List ℕ) → inRange n s ≡ true → callAnswer n s reply ≡ refused number values
+    → Fine (s .mode) number ≡ true
+told-fine n s reply number values h e = subst (FineTold (s .mode)) (sym (told-is n s reply h) ∙ e) (call-fit n s reply h .1)
+
 pub call-never : (n : ℕ) (s : Publisher) (reply : Bool) (values : List ℕ) → inRange n s ≡ true → callAnswer n s reply ≡ refused 2 values → ⊥
 call-never n s reply values h e =
-    let never : false ≡ true = subst (FineTold (s .mode)) (sym (told-is n s reply h) ∙ e) (call-fit n s reply h .1) in
-    let z : _≡_ {A = ℕ} 0 1 = cc in
+    let z : _≡_ {A = ℕ} 0 1 = ap (λ (b : Bool). cond b 1 0) (told-fine n s reply 2 values h e) in
     omega arith
 
 pub call-no-crc : (n : ℕ) (s : Publisher) (reply : Bool) (values : List ℕ) → s .mode ≡ Quick → callAnswer n s reply ≡ refused 6 values → ⊥
@@ -237,8 +224,7 @@ call-no-crc n s reply values quick e = go (inRange n s) refl
   where
     go : (t : Bool) → inRange n s ≡ t → ⊥
     go true h =
-        let never : readsCrc (s .mode) ≡ true = subst (FineTold (s .mode)) (sym (told-is n s reply h) ∙ e) (call-fit n s reply h .1) in
-        let z : _≡_ {A = ℕ} 0 1 = ap (λ (b : Bool). cond b 1 0) (sym (ap readsCrc quick) ∙ never) in
+        let z : _≡_ {A = ℕ} 0 1 = ap (λ (b : Bool). cond b 1 0) (sym (ap readsCrc quick) ∙ told-fine n s reply 6 values h e) in
         omega arith
     go false h =
         let other : _≡_ {A = Told Next} (refused 2 []) (refused 6 values) = sym (call-outside n s reply h .0) ∙ e in

@@ -11,12 +11,10 @@ use borrow.Author.Tests.{eq-eqb, ne-eqb, eqb-true, eqb-false}
 use Rattle.terms.specs.Bits.{one, odd, bitsOf, bitsOfBytes, same}
 use Rattle.terms.specs.Refusal.{numberOf, valuesOf}
 use Rattle.terms.specs.declared.address.Space.{Space}
-use Rattle.terms.specs.declared.address.Space.the-variants.{Data, Status}
 use Rattle.terms.specs.declared.refusal.Refusal.{Refusal}
 use Rattle.terms.specs.declared.refusal.Refusal.the-variants.{Crc16, ReadBack}
 use Rattle.terms.specs.declared.write_mode.WriteMode.{WriteMode}
 use Rattle.terms.specs.declared.write_mode.WriteMode.the-variants.{Ordinary, Quick}
-use Rattle.terms.specs.WriteMode.{writeCommand}
 use Rattle.terms.proofs.Values.{one-odd}
 use Rattle.crc.specs.Crc.{crcBytes, crc16Byte, crc16Word}
 use Rattle.bus.specs.declared.Event.the-variants.{Slot, Pulse}
@@ -29,7 +27,7 @@ use Rattle.plan.specs.Plan.{resetStep, pulseStep, freely, sendSteps, readSteps,
 use Rattle.publisher.specs.declared.Judged.{Judged}
 use Rattle.publisher.specs.declared.Judged.the-variants.{On, Stop}
 use Rattle.publisher.specs.Call.{judgedLast, judgedPresence, judgedOf}
-use Rattle.call_laws.specs.Script.{checkCrc, writeByte, writeBytes, headOf, write, skip, updateScript}
+use Rattle.call_laws.specs.Script.{checkCrc, writeByte, writeBytes, write, skip, updateScript}
 
 -- on is what follows, by whether the bits so far have agreed
 
@@ -151,9 +149,7 @@ bytes-written : (mode : WriteMode) (bytes : List ℕ) (a register old : ℕ) (on
 unfolding bytesSteps writeBytes crcBytes
 bytes-written mode [] a register old on fit = refl
 bytes-written mode (byte ∷ bytes) a register old on fit =
-    joined (byteSteps mode register old byte) (bytesSteps mode (a + 1) (a + 1) old bytes) on true
-    ∙ byte-written mode register old byte (asScript (bytesSteps mode (a + 1) (a + 1) old bytes) on) (fit .0)
-    ∙ ap (writeByte mode (crc16Byte register byte) old byte) (bytes-written mode bytes (a + 1) (a + 1) old on (fit .1))
+    simp (joined, byte-written, fit .0, bytes-written mode bytes (a + 1) (a + 1) old on (fit .1))
 
 -- ---- a write, and the update
 
@@ -161,40 +157,21 @@ module _ (mode : WriteMode) (select : List ℕ) where
   abbrev selecting : List Step
   selecting = resetStep ∷ freely (slots (bitsOfBytes select))
 
+  selected : (on : Bool → Script) (good : Bool) → asScript selecting on good ≡ reset (sendBytes select (on true))
+  selected on good = present (asScript (freely (slots (bitsOfBytes select))) on) good ∙ ap reset (free (bitsOfBytes select) on)
+
   written : (space : Space) (a old : ℕ) (bytes : List ℕ) (on : Bool → Script) (good : Bool) → Fit old bytes
       → asScript (writeSteps mode selecting space a old bytes) on good ≡ write mode select space a old bytes (on true)
-  unfolding writeSteps headSteps write sendSteps bitsOf bitsOfBytes headRegister crcBytes
-  written space a old bytes on good fit =
-      let head = sendSteps (writeCommand mode space) ++ (sendSteps (a % 256) ++ sendSteps (a / 256)) in
-      let later = bytesSteps mode a (headRegister mode space a) old bytes in
-      joined (selecting ++ head) later on good
-      ∙ joined selecting head (asScript later on) good
-      ∙ joined (resetStep ∷ []) (freely (slots (bitsOfBytes select))) (asScript head (asScript later on)) good
-      ∙ present (asScript (freely (slots (bitsOfBytes select))) (asScript head (asScript later on))) good
-      ∙ ap reset
-      (free (bitsOfBytes select) (asScript head (asScript later on))
-      ∙ ap (sendBytes select)
-      (free (bitsOfBytes (headOf mode space a)) (asScript later on)
-      ∙ ap (sendBytes (headOf mode space a)) (bytes-written mode bytes a (headRegister mode space a) old on fit)))
+  unfolding writeSteps headSteps write headRegister crcBytes sendBits bitsOf bitsOfBytes
+  written space a old bytes on good fit = simp (joined, selected, byte-sent, bytes-written)
 
   planned : (l t used : ℕ) (new : List ℕ)
       → asScript (planBy mode selecting l t used new) (λ good. gives (l ∷ t ∷ []) []) true ≡ updateScript mode select l t used new
   unfolding planBy updateScript
   planned l t used new =
-      let end : Bool → Script = λ good. gives (l ∷ t ∷ []) [] in
-      let w1 = writeSteps mode selecting Status (0x40 + t / 8) used ((255 - 2 ^ (t % 8)) ∷ []) in
-      let w2 = writeSteps mode selecting Data (32 * t) 255 new in
-      let w3 = writeSteps mode selecting Status (0x100 + l) 255 ((255 - t) ∷ []) in
-      let c = resetStep ∷ [] in
-      joined w1 (w2 ++ (w3 ++ c)) end true
-      ∙ written Status (0x40 + t / 8) used ((255 - 2 ^ (t % 8)) ∷ []) (asScript (w2 ++ (w3 ++ c)) end) true (omega (arith, and-le-r used (255 - 2 ^ (t % 8))), tt)
-      ∙ ap (write mode select Status (0x40 + t / 8) used ((255 - 2 ^ (t % 8)) ∷ []))
-      (joined w2 (w3 ++ c) end true
-      ∙ written Data (32 * t) 255 new (asScript (w3 ++ c) end) true (blank-fits new)
-      ∙ ap (write mode select Data (32 * t) 255 new)
-      (joined w3 c end true
-      ∙ written Status (0x100 + l) 255 ((255 - t) ∷ []) (asScript c end) true (blank-fits ((255 - t) ∷ []))
-      ∙ ap (write mode select Status (0x100 + l) 255 ((255 - t) ∷ [])) (present end true)))
+      let back = and-le-r used (255 - 2 ^ (t % 8)) in
+      let small : Fit used ((255 - 2 ^ (t % 8)) ∷ []) = (omega arith, tt) in
+      simp (joined, written, present, blank-fits, small)
 
 pub skip-planned : (mode : WriteMode) (l t used : ℕ) (new : List ℕ)
     → asScript (planOf mode l t used new) (λ good. gives (l ∷ t ∷ []) []) true ≡ updateScript mode skip l t used new
