@@ -2,11 +2,11 @@
 use Prim.Native.Nat.{ℕ, zero, suc, _<_, _≤_}
 use mathlib.Core.Path.{_≡_, refl, sym, ap, _∙_}
 use mathlib.Core.Bool.{Bool, true, false, cond}
-use mathlib.Core.List.{List}
+use mathlib.Core.List.{List, [], _∷_}
 use native.Mathlib.Omega.{arith}
 use lib.Dec.{eqb}
 use lib.ListN.{length}
-use borrow.Author.Tests.{eqb-true, eq-eqb, lt-ltb}
+use borrow.Author.Tests.{eqb-true, eq-eqb, ne-eqb, lt-ltb, le-ltb}
 use Rattle.terms.specs.Told.{refused}
 use Rattle.terms.specs.Refusal.{numberOf}
 use Rattle.terms.specs.declared.address.Page.{Page}
@@ -96,6 +96,39 @@ module _ (n : ℕ) (img new : List ℕ) (p : ℕ) where
   unfolding choiceWalked choiceFinal
   closing values size long low c = ap choiceTold (walked size long low) ∙ simp (c .walk, c .protected, c .given)
 
+  -- ---- the other refusals, in their order
+
+  other-image : (length img ≡ imageSize n → ⊥) → startAnswer n img new p ≡ refused 1 []
+  unfolding choiceOf isImage
+  other-image size = simp (ne-eqb (length img) (imageSize n) size)
+
+  other-new : length img ≡ imageSize n → (length new ≡ 32 → ⊥) → startAnswer n img new p ≡ refused 10 []
+  unfolding choiceOf isImage
+  other-new size long = simp (eq-eqb (length img) (imageSize n) size, ne-eqb (length new) 32 long)
+
+  other-page : length img ≡ imageSize n → length new ≡ 32 → n ≤ p → startAnswer n img new p ≡ refused 3 []
+  unfolding choiceOf isImage isPage
+  other-page size long high = simp (eq-eqb (length img) (imageSize n) size, eq-eqb (length new) 32 long, le-ltb p n high)
+
+  module _ (size : length img ≡ imageSize n) (long : length new ≡ 32) (low : p < n) where
+    looping : walkOf n img p ≡ Loop → startAnswer n img new p ≡ refused 4 []
+    unfolding choiceWalked
+    looping w = ap choiceTold (walked size long low) ∙ simp w
+
+    leaving : (x : ℕ) → walkOf n img p ≡ Outside x → startAnswer n img new p ≡ refused 5 (x ∷ [])
+    unfolding choiceWalked
+    leaving x w = ap choiceTold (walked size long low) ∙ simp w
+
+    guarded : (l : Page) (hops : ℕ) → walkOf n img p ≡ Final l hops → pageBit n DataProtection img (l .0) ≡ true → pageBit n RedirectionProtection img (l .0) ≡ false
+        → startAnswer n img new p ≡ refused 9 (l .0 ∷ [])
+    unfolding choiceWalked choiceFinal
+    guarded l hops w d r = ap choiceTold (walked size long low) ∙ simp (w, d, r)
+
+    filled : (l : Page) (hops : ℕ) → walkOf n img p ≡ Final l hops → pageBit n DataProtection img (l .0) ≡ true → pageBit n RedirectionProtection img (l .0) ≡ true
+        → lowestFree n img (l .0) ≡ Nothing → startAnswer n img new p ≡ refused 8 []
+    unfolding choiceWalked choiceFinal choiceFree foundChoice
+    filled l hops w d r f = ap choiceTold (walked size long low) ∙ simp (w, d, r, f)
+
   -- ---- 20 is told by one test alone
 
   module _ (values : List ℕ) where
@@ -143,4 +176,11 @@ module _ (n : ℕ) (img new : List ℕ) (p : ℕ) where
         accepts = chooses;
         closes = closing;
         only = tells;
+        image-length = other-image;
+        new-length = other-new;
+        page-number = other-page;
+        loops = looping;
+        outside = λ x size long low. leaving size long low x;
+        protected = λ l hops size long low. guarded size long low l hops;
+        none-free = λ l hops size long low. filled size long low l hops;
       }

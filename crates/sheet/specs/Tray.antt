@@ -1,4 +1,4 @@
--- Document 01's example of a list.
+-- Document 01's example of a list, and its other line forms.
 use Prim.Native.Nat.{ℕ, _+_}
 use mathlib.Core.Path.{_≡_, refl}
 use mathlib.Core.List.{List, [], _∷_, _++_}
@@ -10,19 +10,33 @@ use Rattle.terms.specs.Scan.{every, count}
 use Rattle.chain.specs.Walk.{walkFrom, walkOf, redirectedCount}
 use Rattle.chain.specs.Free.{isUnnamed, isFree, freeCount}
 use Rattle.sheet.specs.Text.{digitOf, decimal}
-use Rattle.sheet.specs.List.{finalText, verdictText, lineOf, pagesLine, pageLine, pageLines, countsLine, listOf}
+use Rattle.sheet.specs.List.{finalText, outsideText, verdictText, lineOf, pagesLine, pageLine, pageLines, countsLine, listOf}
 
--- "pages 64", "1 final 2 hops 1" and "redirected 1 free 61"
+-- "pages 64", then "1 final 2 hops 1" and "redirected 1 free 61"; or "5 loop", "7 outside 200" and "redirected 2 free 61"
+pub head : List ℕ
+head = 112 ∷ 97 ∷ 103 ∷ 101 ∷ 115 ∷ 32 ∷ 54 ∷ 52 ∷ 10 ∷ []
+
 pub lines : List ℕ
 lines =
-    (112 ∷ 97 ∷ 103 ∷ 101 ∷ 115 ∷ 32 ∷ 54 ∷ 52 ∷ 10 ∷ [])
+    head
     ++ (49 ∷ 32 ∷ 102 ∷ 105 ∷ 110 ∷ 97 ∷ 108 ∷ 32 ∷ 50 ∷ 32 ∷ 104 ∷ 111 ∷ 112 ∷ 115 ∷ 32 ∷ 49 ∷ 10 ∷ [])
     ++ (114 ∷ 101 ∷ 100 ∷ 105 ∷ 114 ∷ 101 ∷ 99 ∷ 116 ∷ 101 ∷ 100 ∷ 32 ∷ 49 ∷ 32 ∷ 102 ∷ 114 ∷ 101 ∷ 101 ∷ 32 ∷ 54 ∷ 49 ∷ 10 ∷ [])
 
--- an image all FFh but for FDh as page 1's redirection byte
-pub image : List ℕ
-image = set (replicate (imageSize 64) 0xFF) (statusIndex 64 (redirectionBytes + 1)) 0xFD
+pub other-lines : List ℕ
+other-lines =
+    head
+    ++ (53 ∷ 32 ∷ 108 ∷ 111 ∷ 111 ∷ 112 ∷ 10 ∷ [])
+    ++ (55 ∷ 32 ∷ 111 ∷ 117 ∷ 116 ∷ 115 ∷ 105 ∷ 100 ∷ 101 ∷ 32 ∷ 50 ∷ 48 ∷ 48 ∷ 10 ∷ [])
+    ++ (114 ∷ 101 ∷ 100 ∷ 105 ∷ 114 ∷ 101 ∷ 99 ∷ 116 ∷ 101 ∷ 100 ∷ 32 ∷ 50 ∷ 32 ∷ 102 ∷ 114 ∷ 101 ∷ 101 ∷ 32 ∷ 54 ∷ 49 ∷ 10 ∷ [])
 
-pub example : listOf 64 image ≡ lines
-unfolding lines image digitOf decimal finalText verdictText lineOf pagesLine pageLine pageLines countsLine listOf redirectionOf pageBytes pageBit isBlank every count walkFrom walkOf redirectedCount isUnnamed isFree freeCount firstAddress
-example = refl
+-- an image all FFh but for these redirection bytes of pages
+pub blank : List ℕ
+blank = replicate (imageSize 64) 0xFF
+
+pub redirecting : List ℕ → ℕ → ℕ → List ℕ
+redirecting img p byte = set img (statusIndex 64 (redirectionBytes + p)) byte
+
+-- FDh on page 1; and FAh, which names page 5 itself, on page 5, with 37h on page 7
+pub examples : (listOf 64 (redirecting blank 1 0xFD) ≡ lines) × (listOf 64 (redirecting (redirecting blank 5 0xFA) 7 0x37) ≡ other-lines)
+unfolding head lines other-lines blank redirecting digitOf decimal finalText outsideText verdictText lineOf pagesLine pageLine pageLines countsLine listOf redirectionOf pageBytes pageBit isBlank every count walkFrom walkOf redirectedCount isUnnamed isFree freeCount firstAddress
+examples = (refl, refl)
