@@ -144,7 +144,7 @@ module _ {B : Type 0} (react : B → Event → B) (line : B → Event → Bool) 
   playedTelling script b k = telling (playOn script b .events) (playOn script b .told) k
 
 -- A master with these calls. If its answers to every list of replies are those of playing a script, then joined to any bus it does what
--- the script does there. Joined: the replies are good; there are such, as many as one likes, and they are the drawn ones.
+-- the script does there. Joined: the replies are good. There are such, as many as one likes: the drawn ones.
 pub record ScriptLaws : Type 1 where
   pub on-bus : {B S : Type 0} (react : B → Event → B) (line : B → Event → Bool) (call : S → Bool → S) (told : S → Bool → Told Next) {s : S} {script : Script}
       → ((replies : List Bool) → answers call told s replies ≡ play script replies)
