@@ -9,7 +9,7 @@ use borrow.Author.Tests.{eqb-true, eqb-false, not-true, eq-eqb, ne-eqb}
 use Rattle.memory.specs.Image.{redirectionOf}
 use Rattle.chain.specs.declared.free.Found.the-variants.{At, Nothing}
 use Rattle.chain.specs.Walk.{namedBy}
-use Rattle.chain.specs.Free.{names, isUnnamed, isFree, isFreeOther, lowestFree, Free, Lowest}
+use Rattle.chain.specs.Free.{names, isUnnamed, isFree, isFreeOther, lowestFree, Free, Lowest, FreeLaws}
 use Rattle.terms.proofs.Scan.{both-true, every-means, every-intro}
 use Rattle.chain.proofs.Scan.{first-at, first-nothing}
 
@@ -70,3 +70,6 @@ found-means n img l t e =
 pub nothing-means : (n : ℕ) (img : List ℕ) (l : ℕ) → lowestFree n img l ≡ Nothing → (p : ℕ) → p < n → Free n img p → p ≡ l
 unfolding lowestFree
 nothing-means n img l e p lt f = is-l n img l p f (first-nothing (isFreeOther n img l) n 0 e p (omega arith) (omega arith))
+
+pub free-laws : (n : ℕ) (img : List ℕ) → FreeLaws n img
+free-laws n img = record { free-means = free-means n img; means-free = means-free n img; found-means = found-means n img; nothing-means = nothing-means n img }

@@ -2,6 +2,7 @@
 use Prim.Native.Nat.{ℕ, zero, suc, _+_, _-_, _<_, _≤_}
 use mathlib.Core.Path.{_≡_, refl, sym, ap, _∙_, subst, subst₂}
 use mathlib.Core.Bool.{Bool, true, false}
+use mathlib.Core.List.{List}
 use mathlib.Core.Logic.{_↔_, _⊎_, inl, inr, ⊎-elim}
 use native.Mathlib.Omega.{arith}
 use native.Mathlib.Nat.{suc-add, zero-add, add-zero, not-suc-le-zero, not-le-of-lt, lt-of-not-le}
@@ -10,8 +11,9 @@ use lib.Dec.{eqb, ltb}
 use borrow.Author.Tests.{eqb-true, eqb-false, ltb-true, ltb-false, eq-eqb, ne-eqb, lt-ltb, le-ltb}
 use Rattle.terms.specs.declared.address.Page.{Page}
 use Rattle.terms.specs.declared.verdict.Verdict.the-variants.{Final, Loop, Outside}
-use Rattle.chain.specs.Walk.{namedBy, final, walkFrom, walkBy}
-use Rattle.chain.specs.Chain.{met, Inside, EndsFinal, EndsOutside, Endless}
+use Rattle.memory.specs.Image.{redirectionOf}
+use Rattle.chain.specs.Walk.{namedBy, final, walkFrom, walkBy, walkOf}
+use Rattle.chain.specs.Chain.{met, Inside, EndsFinal, EndsOutside, Endless, WalkLaws}
 use Rattle.chain.proofs.Pigeon.{pigeon}
 
 -- what the redirection byte of one page says
@@ -194,3 +196,14 @@ module _ (b : ℕ → ℕ) (n : ℕ) where
   -- no more hops than pages other than the first
   pub final-hops : (p f h : ℕ) → p < n → walkBy b n p ≡ final f h → h < n
   final-hops p f h lt e = stops-early p h lt (final-stops (final-means p f h lt .0 e))
+
+pub walk-laws : (n : ℕ) (img : List ℕ) (p : ℕ) → p < n → WalkLaws n img p
+unfolding walkOf
+walk-laws n img p lt =
+    let b = redirectionOf n img in
+    record {
+      final-means = λ f h. final-means b n p f h lt;
+      outside-means = λ x. outside-means b n p x lt;
+      loop-means = loop-means b n p lt;
+      final-hops = λ f h. final-hops b n p f h lt;
+    }

@@ -1,8 +1,12 @@
 -- What the walk's verdict means: the pages that the chain of redirection bytes meets one after the other, however far one goes.
 -- Here b is the redirection byte of each page, and n the page count.
 use Prim.Native.Nat.{ℕ, zero, suc, _<_, _≤_}
+use mathlib.Core.List.{List}
+use mathlib.Core.Logic.{_↔_}
 use mathlib.Core.Path.{_≡_}
-use Rattle.chain.specs.Walk.{namedBy}
+use Rattle.terms.specs.declared.verdict.Verdict.the-variants.{Loop, Outside}
+use Rattle.memory.specs.Image.{redirectionOf}
+use Rattle.chain.specs.Walk.{namedBy, final, walkOf}
 
 -- the page met after k hops from p
 abbrev pub met : (ℕ → ℕ) → ℕ → ℕ → ℕ
@@ -31,3 +35,11 @@ pub record EndsOutside (b : ℕ → ℕ) (n p x : ℕ) : Type 0 where
 -- the chain from p never ends
 abbrev pub Endless : (ℕ → ℕ) → ℕ → ℕ → Type 0
 Endless b n p = (k : ℕ) → Inside b n (met b p k)
+
+-- the walk's verdict means what the chain says, from every page of the chip
+pub record WalkLaws (n : ℕ) (img : List ℕ) (p : ℕ) : Type 0 where
+  pub final-means : (f h : ℕ) → (walkOf n img p ≡ final f h) ↔ EndsFinal (redirectionOf n img) n p f h
+  pub outside-means : (x : ℕ) → (walkOf n img p ≡ Outside x) ↔ EndsOutside (redirectionOf n img) n p x
+  pub loop-means : (walkOf n img p ≡ Loop) ↔ Endless (redirectionOf n img) n p
+  -- no more hops than pages other than the first
+  pub final-hops : (f h : ℕ) → walkOf n img p ≡ final f h → h < n

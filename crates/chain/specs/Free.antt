@@ -9,6 +9,7 @@ use Rattle.memory.specs.declared.layout.Field.the-variants.{DataProtection, Use
 use Rattle.memory.specs.Image.{redirectionOf, pageBytes, pageBit}
 use Rattle.memory.specs.Page.{isBlank}
 use Rattle.chain.specs.declared.free.Found.{Found}
+use Rattle.chain.specs.declared.free.Found.the-variants.{At, Nothing}
 use Rattle.terms.specs.Scan.{every, count}
 use Rattle.chain.specs.Scan.{first}
 use Rattle.chain.specs.Walk.{namedBy}
@@ -58,3 +59,10 @@ pub record Lowest (n : ℕ) (img : List ℕ) (other t : ℕ) : Type 0 where
   pub free : Free n img t
   pub apart : t ≡ other → ⊥
   pub below : (p : ℕ) → p < t → Free n img p → p ≡ other
+
+-- both agree
+pub record FreeLaws (n : ℕ) (img : List ℕ) : Type 0 where
+  pub free-means : (p : ℕ) → isFree n img p ≡ true → Free n img p
+  pub means-free : (p : ℕ) → Free n img p → isFree n img p ≡ true
+  pub found-means : (other t : ℕ) → lowestFree n img other ≡ At (record { 0 = t }) → Lowest n img other t
+  pub nothing-means : (other : ℕ) → lowestFree n img other ≡ Nothing → (p : ℕ) → p < n → Free n img p → p ≡ other

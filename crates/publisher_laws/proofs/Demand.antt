@@ -40,7 +40,7 @@ use Rattle.call_laws.specs.Script.{publisherScript}
 use Rattle.call_laws.specs.Calls.{answersTo, Started, scriptIn, eventsIn}
 use Rattle.call_laws.proofs.Laws.{call-laws}
 use Rattle.call_laws.proofs.Plays.{chip-played}
-use Rattle.publisher_laws.specs.Demand.{returned, reaching, readAfter, Update, Demand3}
+use Rattle.publisher_laws.specs.Demand.{returned, reaching, readAfter, Update, Demand3, Demand3Of}
 
 -- a power loss leaves the image
 cut-image : (n : ℕ) (c : Chip) (events : List Event) (m : ℕ) (cut : Bool)
@@ -151,13 +151,16 @@ module _ (n : ℕ) (whole : n % 8 ≡ 0) (some : 0 < n) (low : n ≤ 256) (mode 
       ∙ stopped-told (numberOf r) (valuesOf r) replies
       ∙ ap₂ (λ (x : ℕ) (v : List ℕ). replicate {A = Told Next} (length replies) (refused x v)) number given
 
-  pub demand-3 : Ready n c → Bytes new → Demand3 n mode c new p replies
-  demand-3 ok small =
+  demands : Ready n c → Bytes new → Demand3 n mode c new p replies
+  demands ok small =
       record {
         update = λ a. accepts ok small choice refl a;
         refusal = λ k values a. refuses k values choice refl a;
       }
 
+pub demand-3 : (n : ℕ) → n % 8 ≡ 0 → 0 < n → n ≤ 256 → Demand3Of n
+demand-3 n whole some low mode c new p replies ok small = demands n whole some low mode c new p replies ok small
+
 -- at the DS2505's 64 pages, in both modes
-pub ds2505 : (mode : WriteMode) (c : Chip) (new : List ℕ) (p : ℕ) (replies : List Bool) → Ready 64 c → Bytes new → Demand3 64 mode c new p replies
+pub ds2505 : Demand3Of 64
 ds2505 = demand-3 64 refl (lit< tt) (lit≤ tt)

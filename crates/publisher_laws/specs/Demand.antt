@@ -21,6 +21,7 @@ use Rattle.master.specs.Joint.{Begins, Good}
 use Rattle.publisher.specs.declared.Publisher.{Publisher}
 use Rattle.publisher.specs.Start.{startAnswer, startState}
 use Rattle.chip.specs.Run.{Chip, next, lineAt, run}
+use Rattle.chip_laws.specs.Session.{Ready, Bytes}
 use Rattle.plan.specs.Plan.{totalOf, shownOf}
 use Rattle.call_laws.specs.Calls.{answersTo, eventsIn}
 
@@ -68,3 +69,8 @@ pub record Demand3 (n : ℕ) (mode : WriteMode) (c : Chip) (new : List ℕ) (p :
   -- after a start that refuses, every later call repeats the refusal, and no event is returned
   pub refusal : (k : ℕ) (values : List ℕ) → startAnswer n (c .image) new p ≡ refused k values
       → answersTo n (startState n mode (c .image) new p) replies ≡ replicate (length replies) (refused k values)
+
+-- Demand 3 of every chip with n pages that is within its ranges, every 32 or other bytes, page and list of replies, in both modes. It is
+-- proved of every multiple of 8 up to 256, and cited at 64.
+pub Demand3Of : ℕ → Type 0
+Demand3Of n = (mode : WriteMode) (c : Chip) (new : List ℕ) (p : ℕ) (replies : List Bool) → Ready n c → Bytes new → Demand3 n mode c new p replies
