@@ -6,6 +6,7 @@ use Rattle.publisher.specs.Start.{choiceOf}
 use Rattle.publisher.specs.Call.{callAnswer, callState}
 use Rattle.call_laws.specs.Calls.{CallLaws}
 use Rattle.call_laws.proofs.Ranges.{start-fits, call-keeps, call-outside, call-never, call-no-crc}
+use Rattle.call_laws.proofs.Listed.{listed}
 use Rattle.call_laws.proofs.Plays.{started-plays, choice-plays, events-ordered}
 
 pub call-laws : (n : ℕ) → 0 < n → CallLaws n
@@ -13,6 +14,7 @@ call-laws n some =
     record {
       starts = start-fits n some;
       keeps = call-keeps n;
+      listed = listed n;
       outside = call-outside n;
       never-2 = call-never n;
       no-crc = call-no-crc n;

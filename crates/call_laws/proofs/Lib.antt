@@ -1,4 +1,5 @@
+pub mod Laws
+pub mod Listed
+pub mod Plays
 pub mod Ranges
 pub mod Script
-pub mod Plays
-pub mod Laws

@@ -3,6 +3,7 @@ use Prim.Native.Nat.{ℕ}
 use mathlib.Core.Path.{_≡_}
 use mathlib.Core.Bool.{Bool, true, false}
 use mathlib.Core.List.{List, [], _∷_}
+use mathlib.Core.Logic.{_↔_}
 use lib.ListN.{length}
 use Rattle.terms.specs.Told.{Told, refused, accepted}
 use Rattle.terms.specs.declared.write_mode.WriteMode.{WriteMode}
@@ -16,6 +17,7 @@ use Rattle.publisher.specs.declared.Stage.the-variants.{Running}
 use Rattle.publisher.specs.declared.Publisher.{Publisher}
 use Rattle.publisher.specs.Start.{choiceOf, startState}
 use Rattle.publisher.specs.Call.{inRange, callAnswer, callState}
+use Rattle.call_laws.specs.Ranges.{Listed}
 use Rattle.call_laws.specs.Script.{skip, updateScript, updateEvents, publisherScript}
 
 -- the answers to calls, one for each reply, each on the state last handed back
@@ -39,7 +41,8 @@ pub record CallLaws (n : ℕ) : Type 1 where
   -- every start and every call keep to the ranges
   pub starts : (mode : WriteMode) (img new : List ℕ) (p : ℕ) → inRange n (startState n mode img new p) ≡ true
   pub keeps : (s : Publisher) (reply : Bool) → inRange n s ≡ true → inRange n (callState n s reply) ≡ true
-  -- 2 is told of a state outside the ranges, which comes back the same, and of no other
+  -- the ranges are those listed; 2 is told of a state outside them, which comes back the same, and of no other
+  pub listed : (s : Publisher) → (inRange n s ≡ true) ↔ Listed n s
   pub outside : (s : Publisher) (reply : Bool) → inRange n s ≡ false → (callAnswer n s reply ≡ refused 2 []) × (callState n s reply ≡ s)
   pub never-2 : (s : Publisher) (reply : Bool) (values : List ℕ) → inRange n s ≡ true → callAnswer n s reply ≡ refused 2 values → ⊥
   -- in the quick mode 6 is never told, whatever the state and the reply

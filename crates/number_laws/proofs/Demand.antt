@@ -10,6 +10,7 @@ use Rattle.number_read.specs.declared.NumberRead.{NumberRead}
 use Rattle.number_read.specs.NumberRead.{inRange, numberAnswer, numberState}
 use Rattle.number_laws.specs.Laws.{NumberLaws}
 use Rattle.number_laws.proofs.Ranges.{starts, keeps, outside, never-2}
+use Rattle.number_laws.proofs.Listed.{listed}
 use Rattle.number_laws.proofs.Plays.{plays}
 use Rattle.number_laws.proofs.Derived.{counted, ordered, agreed, image-stays, joined}
 
@@ -18,6 +19,7 @@ number-laws n whole =
     record {
       starts = starts;
       keeps = keeps;
+      listed = listed;
       outside = outside;
       never-2 = never-2;
       plays = plays;

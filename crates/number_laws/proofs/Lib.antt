@@ -1,5 +1,6 @@
 pub mod Demand
 pub mod Derived
 pub mod Ds2505
+pub mod Listed
 pub mod Plays
 pub mod Ranges

@@ -3,6 +3,7 @@ use Prim.Native.Nat.{ℕ}
 use mathlib.Core.Path.{_≡_}
 use mathlib.Core.Bool.{Bool, true, false, cond, _&&_}
 use mathlib.Core.List.{List, [], _∷_, _++_}
+use mathlib.Core.Logic.{_↔_}
 use lib.ListN.{length}
 use Rattle.terms.specs.Bits.{bitsOfBytes}
 use Rattle.terms.specs.Told.{Told, refused, accepted, judge}
@@ -17,6 +18,7 @@ use Rattle.number_read.specs.declared.NumberRead.{NumberRead}
 use Rattle.number_read.specs.NumberRead.{inRange, begun, numberAnswer, numberState}
 use Rattle.chip.specs.Run.{Chip, next, run, lineAt}
 use Rattle.chip_laws.specs.Session.{Ready, Bytes}
+use Rattle.number_laws.specs.Ranges.{Listed}
 use Rattle.number_laws.specs.Script.{numberScript, crc8Agrees, familyAgrees}
 
 -- the answers to calls, each with its reply, from a state on
@@ -54,7 +56,8 @@ pub record NumberLaws (n : ℕ) : Type 1 where
   -- the start and every call keep to the ranges
   pub starts : inRange begun ≡ true
   pub keeps : (s : NumberRead) (reply : Bool) → inRange s ≡ true → inRange (numberState s reply) ≡ true
-  -- 2 is told of a state outside the ranges, which comes back the same, and of no other
+  -- the ranges are those listed; 2 is told of a state outside them, which comes back the same, and of no other
+  pub listed : (s : NumberRead) → (inRange s ≡ true) ↔ Listed (s .phase) (s .bytes)
   pub outside : (s : NumberRead) (reply : Bool) → inRange s ≡ false → (numberAnswer s reply ≡ refused 2 []) × (numberState s reply ≡ s)
   pub never-2 : (s : NumberRead) (reply : Bool) (values : List ℕ) → inRange s ≡ true → numberAnswer s reply ≡ refused 2 values → ⊥
   -- whatever the replies, the calls tell what the script does

@@ -4,6 +4,7 @@ pub mod Derived
 pub mod Ds2505
 pub mod Hears
 pub mod Joined
+pub mod Listed
 pub mod Plays
 pub mod Ranges
 pub mod Values

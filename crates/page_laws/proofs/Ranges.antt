@@ -6,20 +6,21 @@ use mathlib.Core.List.{List, []}
 use native.Mathlib.Omega.{arith}
 use lib.Dec.{eqb, ltb}
 use lib.ListN.{length, set, length-set}
-use borrow.Author.Tests.{lt-ltb, le-ltb, ltb-true, ltb-false}
+use borrow.Author.Tests.{lt-ltb, le-ltb, ltb-true, ltb-false, ne-eqb}
 use Rattle.terms.specs.Refusal.{numberOf}
-use Rattle.terms.specs.Told.{refused, judge}
+use Rattle.terms.specs.Told.{refused, accepted, judge}
 use Rattle.terms.specs.declared.address.Page.{Page}
 use Rattle.terms.specs.declared.refusal.Refusal.{Refusal}
 use Rattle.memory.specs.Layout.{isPage}
 use Rattle.chain.specs.Walk.{namedBy}
 use Rattle.terms.proofs.Refusals.{state-range}
+use Rattle.master.proofs.Ranges.{both}
 use Rattle.page_read.specs.declared.Part.{Part}
 use Rattle.page_read.specs.declared.Part.the-variants.{Redirection, RedirectionCrc, Data, DataCrc}
 use Rattle.page_read.specs.declared.Phase.{Phase}
 use Rattle.page_read.specs.declared.Phase.the-variants.{Begin, Presence, Command, Receive, Closing, Done, Stopped}
 use Rattle.page_read.specs.declared.PageRead.{PageRead}
-use Rattle.page_read.specs.PageRead.{redirectionCrc, dataCrc, collect, turned, stopped, presence, afterCommand, hopped, onward, followed, judged, nextData, storedAt, stored, dataJudged, partIn, bitIn, closed, takenAt, taken, partInRange, widthOf, receiveInRange, isStop, phaseInRange, inRange, begun, refusedStart, startState, answerOf, readTold, toldOf, readAnswer, readState, readBuffer}
+use Rattle.page_read.specs.PageRead.{redirectionCrc, dataCrc, collect, turned, stopped, presence, afterCommand, hopped, onward, followed, judged, nextData, storedAt, stored, dataJudged, partIn, bitIn, closed, takenAt, taken, partInRange, widthOf, receiveInRange, isStop, phaseInRange, inRange, begun, refusedStart, startAnswer, startState, answerOf, readTold, toldOf, readAnswer, readState, readBuffer}
 
 -- within the ranges, with so many bytes
 pub record Within (n size : ℕ) (s : PageRead) : Type 0 where
@@ -33,10 +34,6 @@ pub record Within (n size : ℕ) (s : PageRead) : Type 0 where
 either : (P : PageRead → Type 0) (t : Bool) (x y : PageRead) → (t ≡ true → P x) → (t ≡ false → P y) → P (cond t x y)
 either P true x y f g = f refl
 either P false x y f g = g refl
-
-both : (t x : Bool) → cond t x false ≡ true → (t ≡ true) × (x ≡ true)
-both true x h = (refl, h)
-both false x h = (h, cc)
 
 neither : (t x : Bool) → cond t false x ≡ true → (t ≡ false) × (x ≡ true)
 neither true x h = (sym h, cc)
@@ -67,12 +64,12 @@ unfolding inRange
 in-range n s w = simp (is-page n (s .page .0) (w .page), lt-ltb (s .hops) n (w .hops), w .phase)
 
 -- what the range of a part says
-record Receiving (piece : Part) (left : ℕ) : Type 0 where
-  some : 1 ≤ left
-  most : left ≤ widthOf piece
-  part : partInRange piece ≡ true
+pub record Receiving (piece : Part) (left : ℕ) : Type 0 where
+  pub some : 1 ≤ left
+  pub most : left ≤ widthOf piece
+  pub part : partInRange piece ≡ true
 
-receiving : (part : Part) (left : ℕ) → receiveInRange part left ≡ true → Receiving part left
+pub receiving : (part : Part) (left : ℕ) → receiveInRange part left ≡ true → Receiving part left
 unfolding receiveInRange
 receiving part left h =
     let a = neither (ltb left 1) _ h in
@@ -171,12 +168,25 @@ module _ (n : ℕ) where
       either (λ x. inRange n x ≡ true) (isPage n p) _ _ (λ t. in-range n _ (begun-in p (page-true n p t)))
       (λ _. in-range n {size = 32} refusedStart (unfold refusedStart phaseInRange isStop in record { page = l; hops = l; phase = refl; sized = refl }))
 
+  pub start-ready : (p : ℕ) → p < n → startAnswer n p ≡ accepted []
+  unfolding startAnswer
+  start-ready p l = simp (is-page n p l)
+
+  pub start-refused : (p : ℕ) → n ≤ p → startAnswer n p ≡ refused 3 []
+  unfolding startAnswer
+  start-refused p l = simp (no-page n p l)
+
   -- ---- number 2
 
   pub outside : (s : PageRead) (reply : Bool) (buffer : List ℕ) → inRange n s ≡ false
       → (readAnswer n s reply buffer ≡ refused 2 []) × (readState n s reply buffer ≡ s) × (readBuffer n s reply buffer ≡ buffer)
   unfolding readAnswer readState readBuffer
   outside s reply buffer h = (simp h, simp h, simp h)
+
+  pub other-buffer : (s : PageRead) (reply : Bool) (buffer : List ℕ) → inRange n s ≡ true → (length buffer ≡ 32 → ⊥)
+      → (readAnswer n s reply buffer ≡ refused 10 []) × (readState n s reply buffer ≡ s) × (readBuffer n s reply buffer ≡ buffer)
+  unfolding readAnswer readState readBuffer
+  other-buffer s reply buffer h l = let e = ne-eqb (length buffer) 32 l in (simp (h, e), simp (h, e), simp (h, e))
 
   -- the refusal of number 2 stops no read
   not-stopped : (refusal : Refusal) → isStop n refusal ≡ true → numberOf refusal ≡ 2 → ⊥

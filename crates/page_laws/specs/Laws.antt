@@ -3,6 +3,7 @@ use Prim.Native.Nat.{ℕ, _+_, _*_, _<_, _≤_}
 use mathlib.Core.Path.{_≡_}
 use mathlib.Core.Bool.{Bool, true, false, cond}
 use mathlib.Core.List.{List, [], _∷_, _++_}
+use mathlib.Core.Logic.{_↔_}
 use lib.Dec.{eqb}
 use lib.ListN.{length}
 use Rattle.terms.specs.Told.{Told, refused, accepted}
@@ -16,10 +17,11 @@ use Rattle.master.specs.Joint.{Good}
 use Rattle.master.specs.Joint as joint
 use Rattle.master.specs.Script.{Script, toldAt, handedAt, leftIn, follow, play, leftBy, telling, leaving, playedTelling}
 use Rattle.page_read.specs.declared.PageRead.{PageRead}
-use Rattle.page_read.specs.PageRead.{inRange, startState, readAnswer, readState, readBuffer}
+use Rattle.page_read.specs.PageRead.{inRange, startAnswer, startState, readAnswer, readState, readBuffer}
 use Rattle.chip.specs.Run.{Chip, next, run, lineAt}
 use Rattle.chip_laws.specs.Session.{Ready, Bytes}
 use Rattle.page_laws.specs.Heard.{Heard, visitEvents, pageEvents, eventsFor}
+use Rattle.page_laws.specs.Ranges.{Listed}
 use Rattle.page_laws.specs.Script.{pageScript}
 
 -- ---- calls one after the other, all lent one buffer
@@ -117,12 +119,19 @@ abbrev pub mostEvents : ℕ → ℕ
 mostEvents n = 57 * n + 273
 
 pub record PageLaws (n : ℕ) : Type 1 where
+  -- the start tells nothing of a page of the chip, and 3 of another number
+  pub start-ready : (p : ℕ) → p < n → startAnswer n p ≡ accepted []
+  pub start-refused : (p : ℕ) → n ≤ p → startAnswer n p ≡ refused 3 []
   -- every start and every call keep to the ranges
   pub starts : (p : ℕ) → inRange n (startState n p) ≡ true
   pub keeps : (s : PageRead) (reply : Bool) (buffer : List ℕ) → inRange n s ≡ true → inRange n (readState n s reply buffer) ≡ true
-  -- 2 is told of a state outside the ranges, whatever buffer is lent with it, both come back the same; and of no other
+  -- the ranges are those listed; 2 is told of a state outside them, whatever buffer is lent with it, both come back the same; and of no other
+  pub listed : (s : PageRead) → (inRange n s ≡ true) ↔ Listed n s
   pub outside : (s : PageRead) (reply : Bool) (buffer : List ℕ) → inRange n s ≡ false
       → (readAnswer n s reply buffer ≡ refused 2 []) × (readState n s reply buffer ≡ s) × (readBuffer n s reply buffer ≡ buffer)
+  -- 10 is told of another buffer than one of 32 bytes, and nothing changes
+  pub other-buffer : (s : PageRead) (reply : Bool) (buffer : List ℕ) → inRange n s ≡ true → (length buffer ≡ 32 → ⊥)
+      → (readAnswer n s reply buffer ≡ refused 10 []) × (readState n s reply buffer ≡ s) × (readBuffer n s reply buffer ≡ buffer)
   pub never-2 : (s : PageRead) (reply : Bool) (buffer values : List ℕ) → inRange n s ≡ true → readAnswer n s reply buffer ≡ refused 2 values → ⊥
   -- whatever the page asked for, the replies and the buffers lent, the calls give back what the script gives
   pub plays-lent : (p : ℕ) (calls : List Lent) → givenTo n (startState n p) calls ≡ playLent (pageScript n p) calls
