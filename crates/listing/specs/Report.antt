@@ -2,9 +2,14 @@
 use Prim.Native.Nat.{ℕ}
 use mathlib.Core.Bool.{cond}
 use mathlib.Core.List.{List}
+use Rattle.memory.specs.Page.{copied}
 use Rattle.sheet.specs.Stored.{isSheet, imagePart}
 use Rattle.sheet.specs.List.{listOf, refusedLine}
 
 -- its list; of a faulty sheet the line of its refusal alone
 unfoldable pub reportOf : ℕ → List ℕ → List ℕ
 reportOf n s = cond (isSheet n s) (listOf n (imagePart n s)) (refusedLine 12)
+
+-- a buffer with that text, and after it what stood there
+unfoldable pub reportBuffer : ℕ → List ℕ → List ℕ → List ℕ
+reportBuffer n s text = copied (reportOf n s) text

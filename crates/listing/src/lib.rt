@@ -1,10 +1,11 @@
 // What the list program writes for a sheet.
 ghost use mathlib.Core.Path.{_≡_};
 ghost use Prim.Native.Nat.{_≤_};
-ghost use lib.ListN.{length, take};
+ghost use lib.ListN.{length};
 ghost use Rattle.terms.specs.Refusal.{numberOf};
+ghost use Rattle.memory.specs.Page.{copied};
 ghost use Rattle.sheet.specs.List.{roomFor, refusedLine};
-ghost use Rattle.listing.specs.Report.{reportOf};
+ghost use Rattle.listing.specs.Report.{reportOf, reportBuffer};
 use libc::STDOUT_FILENO;
 use sheet::list;
 use sheet::list::Listed;
@@ -13,8 +14,8 @@ use terms::refusal::Refusal;
 // The line of a refusal into a buffer, and how many bytes it has.
 fn refusal(refusal: Refusal, text: &mut [u8]) -> usize
     requires { ⌜ roomFor 64 ≤ length (now text) ⌝ }
-    ensures within { λ r. ⌜ r ≤ length (now (text .exit)) ⌝ }
-    ensures text { λ r. ⌜ take r (now (text .exit)) ≡ refusedLine (numberOf refusal) ⌝ }
+    ensures size { λ r. ⌜ r ≡ length (refusedLine (numberOf refusal)) ⌝ }
+    ensures text { λ r. ⌜ now (text .exit) ≡ copied (refusedLine (numberOf refusal)) (now (text .entry)) ⌝ }
 {
     match list::write_refusal(refusal, text) {
         Listed::Refused(_) => 0,
@@ -22,10 +23,10 @@ fn refusal(refusal: Refusal, text: &mut [u8]) -> usize
     }
 }
 
-// The list of a sheet, or the line of its refusal, into a buffer, and how many bytes it has.
+// The list of a sheet, or the line of its refusal, into a buffer, and how many bytes it has. What is past it stays.
 pub fn report(sheet: &[u8], text: &mut [u8; 1576]) -> usize
-    ensures within { λ r. ⌜ r ≤ length (now (text .exit)) ⌝ }
-    ensures text { λ r. ⌜ take r (now (text .exit)) ≡ reportOf 64 (now (sheet .entry)) ⌝ }
+    ensures size { λ r. ⌜ r ≡ length (reportOf 64 (now (sheet .entry))) ⌝ }
+    ensures text { λ r. ⌜ now (text .exit) ≡ reportBuffer 64 (now (sheet .entry)) (now (text .entry)) ⌝ }
 {
     match list::write(sheet, text) {
         Listed::Refused(r) => refusal(r, text),
