@@ -17,8 +17,9 @@
  *
  * Codes. Every function but the two CRCs returns a code: 0, or the number of a
  * refusal. Each comment lists the codes in the order in which they are judged:
- * the first that applies is returned. A length that is wrong where the comment
- * names one draws the code that is listed for it.
+ * the first that applies is returned. In every function 1 comes before 2, 2
+ * before 10, and these before all others. A length that is wrong where the
+ * comment names one draws the code that is listed for it.
  *
  * A refusal leaves every buffer as it was, with these exceptions:
  *   - 5, 9 and 20 put 0xFF and their value into the answer, where the function
@@ -165,7 +166,7 @@ uint16_t ds2505_crc16(uint16_t crc, const uint8_t *bytes, size_t bytes_size);
      events   any length
      image    2,368 bytes
      replies  as many bytes as events
-   Codes: 10 for the number, 1, 2 for a byte that is no event, 10 for the
+   Codes: 1, 2 for a byte that is no event, 10 for the number, 10 for the
    replies. */
 uint32_t ds2505_chip_run(const uint8_t *number, size_t number_size,
                          const uint8_t *events, size_t events_size,
@@ -199,7 +200,7 @@ uint32_t ds2505_chip_events(uint8_t *state, size_t state_size,
    above 63.
      image    2,368 bytes
      answer   16 bytes
-   Codes: 10 for the answer, 1, 3, 4, 5. */
+   Codes: 1, 10 for the answer, 3, 4, 5. */
 uint32_t ds2505_walk(const uint8_t *image, size_t image_size, uint8_t page,
                      uint8_t *answer, size_t answer_size);
 
@@ -214,7 +215,7 @@ uint32_t ds2505_page(const uint8_t *image, size_t image_size, uint8_t page,
    0xFF and that page.
      image    2,368 bytes
      answer   16 bytes
-   Codes: 10 for the answer, 1, 3 for the page given, 8. */
+   Codes: 1, 10 for the answer, 3 for the page given, 8. */
 uint32_t ds2505_free_page(const uint8_t *image, size_t image_size,
                           uint8_t other, uint8_t *answer, size_t answer_size);
 
@@ -229,7 +230,7 @@ uint32_t ds2505_free_page(const uint8_t *image, size_t image_size,
      number   8 bytes, any values
      new_page 32 bytes
      answer   16 bytes
-   Codes: 10 for the answer, 10 for the number, 1, 10 for new_page, 3, 4, 5, 20,
+   Codes: 1, 10 for the answer, 10 for the number, 10 for new_page, 3, 4, 5, 20,
    9, 8. */
 uint32_t ds2505_update(uint8_t *image, size_t image_size,
                        const uint8_t *number, size_t number_size,
@@ -258,7 +259,7 @@ uint32_t ds2505_update_quick(uint8_t *image, size_t image_size,
      replies  any length
      events   as many bytes as replies
      answer   16 bytes
-   Codes: 10 for the answer, 10 for the events, 2 for a byte that is no reply;
+   Codes: 2 for a byte that is no reply, 10 for the answer, 10 for the events;
    then, told by the last call, 13, 14, 15. */
 uint32_t ds2505_number_run(const uint8_t *replies, size_t replies_size,
                            uint8_t *events, size_t events_size,
@@ -275,8 +276,8 @@ uint32_t ds2505_number_start(uint8_t *state, size_t state_size);
    same.
      state    24 bytes, from ds2505_number_start or an earlier call
      answer   16 bytes
-   Codes: 10 for the answer, 2 for the reply, 2 for the state (another length
-   too); then 13, 14, 15, each with the stopped state. */
+   Codes: 2 for the reply, 2 for the state (another length too), 10 for the
+   answer; then 13, 14, 15, each with the stopped state. */
 uint32_t ds2505_number_call(uint8_t *state, size_t state_size, uint8_t reply,
                             uint8_t *answer, size_t answer_size);
 
@@ -291,7 +292,7 @@ uint32_t ds2505_number_call(uint8_t *state, size_t state_size, uint8_t reply,
      events   as many bytes as replies
      buffer   32 bytes
      answer   16 bytes
-   Codes: 10 for the answer, 10 for the events, 2 for a byte that is no reply,
+   Codes: 2 for a byte that is no reply, 10 for the answer, 10 for the events,
    10 for the buffer, 3; then, told by the last call, 13, 6, 4, 5. */
 uint32_t ds2505_page_run(uint8_t page,
                          const uint8_t *replies, size_t replies_size,
@@ -312,9 +313,9 @@ uint32_t ds2505_page_start(uint8_t page, uint8_t *state, size_t state_size);
      state    48 bytes, from ds2505_page_start or an earlier call
      buffer   32 bytes, in every call
      answer   16 bytes
-   Codes: 10 for the answer, 2 for the reply, 2 for the state (another length
-   too), 10 for the buffer, all with the state unchanged; then 13, 6, 4, 5, each
-   with the stopped state. */
+   Codes: 2 for the reply, 2 for the state (another length too), 10 for the
+   answer, 10 for the buffer, all with the state unchanged; then 13, 6, 4, 5,
+   each with the stopped state. */
 uint32_t ds2505_page_call(uint8_t *state, size_t state_size, uint8_t reply,
                           uint8_t *buffer, size_t buffer_size,
                           uint8_t *answer, size_t answer_size);
@@ -331,9 +332,9 @@ uint32_t ds2505_page_call(uint8_t *state, size_t state_size, uint8_t reply,
      replies  any length
      events   as many bytes as replies
      answer   16 bytes
-   Codes: 10 for the answer, 10 for the events, 2 for a byte that is no reply,
-   1, 10 for new_page, 3, 4, 5, 20, 9, 8; then, told by the last call, 13, 6,
-   7. */
+   Codes: 1, 2 for a byte that is no reply, 10 for the answer, 10 for the
+   events, 10 for new_page, 3, 4, 5, 20, 9, 8; then, told by the last call, 13,
+   6, 7. */
 uint32_t ds2505_publisher_run(const uint8_t *image, size_t image_size,
                               const uint8_t *new_page, size_t new_page_size,
                               uint8_t page,
@@ -363,7 +364,7 @@ uint32_t ds2505_publisher_run_quick(const uint8_t *image, size_t image_size,
      new_page 32 bytes
      state    48 bytes
      answer   16 bytes
-   Codes: 10 for the answer, 10 for the state, 1, 10 for new_page, 3, 4, 5, 20,
+   Codes: 1, 10 for the answer, 10 for the state, 10 for new_page, 3, 4, 5, 20,
    9, 8. */
 uint32_t ds2505_publisher_start(const uint8_t *image, size_t image_size,
                                 const uint8_t *new_page, size_t new_page_size,
@@ -388,8 +389,8 @@ uint32_t ds2505_publisher_start_quick(const uint8_t *image, size_t image_size,
      state    48 bytes, from ds2505_publisher_start, its quick namesake or an
               earlier call
      answer   16 bytes
-   Codes: 10 for the answer, 2 for the reply, 2 for the state (another length
-   too); then 13, 6 (in the ordinary mode only), 7, each with the stopped
+   Codes: 2 for the reply, 2 for the state (another length too), 10 for the
+   answer; then 13, 6 (in the ordinary mode only), 7, each with the stopped
    state. */
 uint32_t ds2505_publisher_call(uint8_t *state, size_t state_size,
                                uint8_t reply,
@@ -401,7 +402,7 @@ uint32_t ds2505_publisher_call(uint8_t *state, size_t state_size,
      number   8 bytes
      image    2,368 bytes
      sheet    2,392 bytes
-   Codes: 10 for the number, 1, 10 for the sheet, 12 for an image that has a
+   Codes: 1, 10 for the number, 10 for the sheet, 12 for an image that has a
    gap in its status with anything but FFh. */
 uint32_t ds2505_sheet_write(const uint8_t *number, size_t number_size,
                             const uint8_t *image, size_t image_size,
@@ -411,7 +412,7 @@ uint32_t ds2505_sheet_write(const uint8_t *number, size_t number_size,
      sheet    2,392 bytes
      number   8 bytes
      image    2,368 bytes
-   Codes: 10 for the number, 1 for the image, 12 (for another length of the
+   Codes: 1 for the image, 10 for the number, 12 (for another length of the
    sheet too). */
 uint32_t ds2505_sheet_read(const uint8_t *sheet, size_t sheet_size,
                            uint8_t *number, size_t number_size,
@@ -451,7 +452,7 @@ uint32_t ds2505_list(const uint8_t *sheet, size_t sheet_size,
      latitude any number, in tenths of a degree
      column   any number
      answer   16 bytes
-   Codes: 10 for the answer, 1, 4 or 5 for page 1, 16, 17, 18, 4 or 5 for the
+   Codes: 1, 10 for the answer, 4 or 5 for page 1, 16, 17, 18, 4 or 5 for the
    row's page, 19. */
 uint32_t ds2505_variation(const uint8_t *image, size_t image_size,
                           int32_t latitude, uint32_t column,

@@ -318,7 +318,9 @@ static int the_variation(void)
 /* A null pointer is allowed with length 0, and is judged by its length. */
 static int nothing(void)
 {
-    CHECK(ds2505_chip_run(NULL, 0, NULL, 0, NULL, 0, NULL, 0) == 10);
+    CHECK(ds2505_chip_run(NULL, 0, NULL, 0, NULL, 0, NULL, 0) == 1);
+    CHECK(ds2505_chip_run(NULL, 0, NULL, 0, image, sizeof image, NULL, 0)
+          == 10);
     CHECK(ds2505_chip_run(number, 8, NULL, 0, image, sizeof image, NULL, 0)
           == 0);
     CHECK(ds2505_chip_power_up(NULL, 0, NULL, 0) == 10);
@@ -327,56 +329,57 @@ static int nothing(void)
           == 2);
     CHECK(ds2505_chip_events(chip, sizeof chip, NULL, 0, image, sizeof image,
                              NULL, 0) == 0);
-    CHECK(ds2505_walk(NULL, 0, 0, NULL, 0) == 10);
-    CHECK(ds2505_walk(NULL, 0, 0, answer, sizeof answer) == 1);
+    CHECK(ds2505_walk(NULL, 0, 0, NULL, 0) == 1);
+    CHECK(ds2505_walk(image, sizeof image, 0, NULL, 0) == 10);
     CHECK(ds2505_page(NULL, 0, 0, NULL, 0) == 1);
     CHECK(ds2505_page(image, sizeof image, 0, NULL, 0) == 10);
-    CHECK(ds2505_free_page(NULL, 0, 0, NULL, 0) == 10);
-    CHECK(ds2505_update(NULL, 0, NULL, 0, NULL, 0, 0, 0, NULL, 0) == 10);
-    CHECK(ds2505_update(NULL, 0, number, 8, NULL, 0, 0, 0, answer,
-                        sizeof answer) == 1);
-    CHECK(ds2505_update_quick(NULL, 0, NULL, 0, NULL, 0, 0, 0, NULL, 0) == 10);
-    CHECK(ds2505_update_quick(NULL, 0, number, 8, NULL, 0, 0, 0, answer,
-                              sizeof answer) == 1);
+    CHECK(ds2505_free_page(NULL, 0, 0, NULL, 0) == 1);
+    CHECK(ds2505_free_page(image, sizeof image, 0, NULL, 0) == 10);
+    CHECK(ds2505_update(NULL, 0, NULL, 0, NULL, 0, 0, 0, NULL, 0) == 1);
+    CHECK(ds2505_update(image, sizeof image, number, 8, NULL, 0, 0, 0, answer,
+                        sizeof answer) == 10);
+    CHECK(ds2505_update_quick(NULL, 0, NULL, 0, NULL, 0, 0, 0, NULL, 0) == 1);
+    CHECK(ds2505_update_quick(image, sizeof image, number, 8, NULL, 0, 0, 0,
+                              answer, sizeof answer) == 10);
     CHECK(ds2505_number_run(NULL, 0, NULL, 0, NULL, 0) == 10);
     CHECK(ds2505_number_run(NULL, 0, NULL, 0, answer, sizeof answer) == 0);
     CHECK(answer[0] == DS2505_EVENT_RESET);
     CHECK(ds2505_number_start(NULL, 0) == 10);
-    CHECK(ds2505_number_call(NULL, 0, 0, NULL, 0) == 10);
-    CHECK(ds2505_number_call(NULL, 0, 0, answer, sizeof answer) == 2);
+    CHECK(ds2505_number_call(NULL, 0, 0, NULL, 0) == 2);
+    CHECK(ds2505_number_call(reader, sizeof reader, 0, NULL, 0) == 10);
     CHECK(ds2505_page_run(0, NULL, 0, NULL, 0, NULL, 0, NULL, 0) == 10);
     CHECK(ds2505_page_run(0, NULL, 0, NULL, 0, NULL, 0, answer, sizeof answer)
           == 10);
     CHECK(ds2505_page_start(0, NULL, 0) == 10);
-    CHECK(ds2505_page_call(NULL, 0, 0, NULL, 0, NULL, 0) == 10);
+    CHECK(ds2505_page_call(NULL, 0, 0, NULL, 0, NULL, 0) == 2);
     CHECK(ds2505_page_call(page_reader, sizeof page_reader, 0, NULL, 0, answer,
                            sizeof answer) == 10);
     CHECK(ds2505_publisher_run(NULL, 0, NULL, 0, 0, NULL, 0, NULL, 0, NULL, 0)
-          == 10);
-    CHECK(ds2505_publisher_run(NULL, 0, NULL, 0, 0, NULL, 0, NULL, 0, answer,
-                               sizeof answer) == 1);
+          == 1);
+    CHECK(ds2505_publisher_run(image, sizeof image, NULL, 0, 0, NULL, 0, NULL,
+                               0, NULL, 0) == 10);
     CHECK(ds2505_publisher_run_quick(NULL, 0, NULL, 0, 0, NULL, 0, NULL, 0,
-                                     NULL, 0) == 10);
-    CHECK(ds2505_publisher_run_quick(NULL, 0, NULL, 0, 0, NULL, 0, NULL, 0,
-                                     answer, sizeof answer) == 1);
-    CHECK(ds2505_publisher_start(NULL, 0, NULL, 0, 0, NULL, 0, NULL, 0) == 10);
+                                     NULL, 0) == 1);
+    CHECK(ds2505_publisher_run_quick(image, sizeof image, NULL, 0, 0, NULL, 0,
+                                     NULL, 0, NULL, 0) == 10);
+    CHECK(ds2505_publisher_start(NULL, 0, NULL, 0, 0, NULL, 0, NULL, 0) == 1);
     CHECK(ds2505_publisher_start(image, sizeof image, NULL, 0, 0, publisher,
                                  sizeof publisher, answer, sizeof answer)
           == 10);
     CHECK(ds2505_publisher_start_quick(NULL, 0, NULL, 0, 0, NULL, 0, NULL, 0)
-          == 10);
+          == 1);
     CHECK(ds2505_publisher_start_quick(image, sizeof image, NULL, 0, 0,
                                        publisher, sizeof publisher, answer,
                                        sizeof answer) == 10);
-    CHECK(ds2505_publisher_call(NULL, 0, 0, NULL, 0) == 10);
-    CHECK(ds2505_sheet_write(NULL, 0, NULL, 0, NULL, 0) == 10);
-    CHECK(ds2505_sheet_read(NULL, 0, NULL, 0, NULL, 0) == 10);
+    CHECK(ds2505_publisher_call(NULL, 0, 0, NULL, 0) == 2);
+    CHECK(ds2505_sheet_write(NULL, 0, NULL, 0, NULL, 0) == 1);
+    CHECK(ds2505_sheet_read(NULL, 0, NULL, 0, NULL, 0) == 1);
     CHECK(ds2505_sheet_read(NULL, 0, number, 8, image, sizeof image) == 12);
     CHECK(ds2505_list(NULL, 0, NULL, 0, NULL, 0) == 10);
     CHECK(ds2505_list(NULL, 0, text, sizeof text, answer, sizeof answer)
           == 12);
-    CHECK(ds2505_variation(NULL, 0, 0, 0, NULL, 0) == 10);
-    CHECK(ds2505_variation(NULL, 0, 0, 0, answer, sizeof answer) == 1);
+    CHECK(ds2505_variation(NULL, 0, 0, 0, NULL, 0) == 1);
+    CHECK(ds2505_variation(image, sizeof image, 0, 0, NULL, 0) == 10);
     CHECK(ds2505_sheet_variation(NULL, 0, 0, 0, NULL, 0) == 10);
     CHECK(ds2505_sheet_variation(NULL, 0, 0, 0, answer, sizeof answer) == 12);
     CHECK(ds2505_change(0, 0, NULL, 0) == 10);

@@ -489,7 +489,8 @@ fn damaged_sheets() {
 // ---- lengths
 
 /// Images, sheets and answers of other lengths, with a good question and with
-/// one for each refusal: 10 comes first, then 1 or 12, and nothing is written.
+/// one for each refusal: 1 comes first, then 10, then 12, and nothing is
+/// written.
 #[test]
 fn other_lengths() {
     let mut image = plug(&header_of(4, 0, 10, &[2, 3, 4, 5]).bytes());
@@ -518,9 +519,9 @@ fn other_lengths() {
             for length in (0..=15).chain(17..=40).chain([1000]) {
                 let mark = vec![0xA5; length];
                 let mut answer = mark.clone();
-                for bytes in [&image[..], &image[1..], &[]] {
+                for (bytes, first) in [(&image[..], 10), (&image[1..], 1), (&[], 1)] {
                     let code = calls::variation(bytes, latitude, column, &mut answer);
-                    assert_eq!((code, &answer), (10, &mark));
+                    assert_eq!((code, &answer), (first, &mark));
                 }
                 for bytes in [&sheet[..], &sheet[1..], &[]] {
                     let code = calls::sheet_variation(bytes, latitude, column, &mut answer);

@@ -60,8 +60,21 @@ fn fault(code: u32, spoil: Spoil) -> Fault {
     }
 }
 
+/// The place of a code in the order that all functions share: 1, 2, 10, and
+/// then the others.
+fn rank(code: u32) -> u32 {
+    match code {
+        1 => 0,
+        2 => 1,
+        10 => 2,
+        _ => 3,
+    }
+}
+
 /// Every set of faults, each by the first of them.
 fn assert_order(name: &str, function: impl Fn(&mut Call) -> u32, good: &Call, faults: &[Fault]) {
+    let ranks: Vec<u32> = faults.iter().map(|fault| rank(fault.code)).collect();
+    assert!(ranks.is_sorted(), "{name}: another order than 1, 2, 10");
     assert_eq!(function(&mut good.clone()), 0, "{name}: a good call");
     for set in 1u32..1 << faults.len() {
         let chosen: Vec<&Fault> = faults
@@ -120,6 +133,16 @@ fn assert_lengths(
 /// Any length but the right one draws this code.
 fn other_lengths(code: u32) -> impl Fn(usize, usize) -> u32 {
     move |length, right| if length == right { 0 } else { code }
+}
+
+/// Events or replies of another length than the buffer beside them: longer
+/// ones are padded with FFh, which is no event and no reply.
+fn other_counts(length: usize, right: usize) -> u32 {
+    match length.cmp(&right) {
+        Ordering::Less => 10,
+        Ordering::Equal => 0,
+        Ordering::Greater => 2,
+    }
 }
 
 fn shorten(call: &mut Call, buffer: usize) {
@@ -496,22 +519,16 @@ fn the_chip() {
         0,
     );
     let faults = [
-        fault(10, |call| shorten(call, 0)),
         fault(1, |call| lengthen(call, 2)),
         fault(2, |call| call.buffers[1][7] = 5),
+        fault(10, |call| shorten(call, 0)),
         fault(10, |call| shorten(call, 3)),
     ];
     assert_order("chip_run", chip_run, &good, &faults);
     assert_lengths("chip_run", chip_run, &good, 0, other_lengths(10));
     assert_lengths("chip_run", chip_run, &good, 2, other_lengths(1));
     assert_lengths("chip_run", chip_run, &good, 3, other_lengths(10));
-    // Longer events are padded with FFh, which is no event.
-    let for_events = |length: usize, right: usize| match length.cmp(&right) {
-        Ordering::Less => 10,
-        Ordering::Equal => 0,
-        Ordering::Greater => 2,
-    };
-    assert_lengths("chip_run", chip_run, &good, 1, for_events);
+    assert_lengths("chip_run", chip_run, &good, 1, other_counts);
 
     let good = Call::new(vec![chip_state(), events, image(), replies], 0);
     let faults = [
@@ -522,7 +539,7 @@ fn the_chip() {
     ];
     assert_order("chip_events", chip_events, &good, &faults);
     assert_lengths("chip_events", chip_events, &good, 0, other_lengths(2));
-    assert_lengths("chip_events", chip_events, &good, 1, for_events);
+    assert_lengths("chip_events", chip_events, &good, 1, other_counts);
     assert_lengths("chip_events", chip_events, &good, 2, other_lengths(1));
     assert_lengths("chip_events", chip_events, &good, 3, other_lengths(10));
 
@@ -547,8 +564,8 @@ fn the_chip() {
 fn the_image() {
     let good = Call::new(vec![image(), mark(16)], PAGE as u8);
     let faults = [
-        fault(10, |call| lengthen(call, 1)),
         fault(1, |call| shorten(call, 0)),
+        fault(10, |call| lengthen(call, 1)),
         fault(3, |call| call.small = 64),
         Fault {
             group: 1,
@@ -565,8 +582,8 @@ fn the_image() {
     assert_lengths("walk", walk, &good, 1, other_lengths(10));
 
     let faults = [
-        fault(10, |call| shorten(call, 1)),
         fault(1, |call| lengthen(call, 0)),
+        fault(10, |call| shorten(call, 1)),
         fault(3, |call| call.small = 255),
         fault(8, |call| use_all(call, 0)),
     ];
@@ -588,9 +605,9 @@ fn the_image() {
     let good = Call::new(vec![image(), NUMBER.to_vec(), new, mark(16)], PAGE as u8);
     let faults = with(
         vec![
+            fault(1, |call| lengthen(call, 0)),
             fault(10, |call| shorten(call, 3)),
             fault(10, |call| lengthen(call, 1)),
-            fault(1, |call| lengthen(call, 0)),
             fault(10, |call| shorten(call, 2)),
         ],
         update_faults(3),
@@ -609,12 +626,12 @@ fn the_number_read() {
     let replies = vec![1, 0, 0, 1, 1, 0, 1];
     let good = Call::new(vec![replies, mark(7), mark(16)], 0);
     let faults = [
+        fault(2, |call| call.buffers[0][6] = 2),
         fault(10, |call| shorten(call, 2)),
         fault(10, |call| lengthen(call, 1)),
-        fault(2, |call| call.buffers[0][6] = 2),
     ];
     assert_order("number_run", number_run, &good, &faults);
-    assert_lengths("number_run", number_run, &good, 0, other_lengths(10));
+    assert_lengths("number_run", number_run, &good, 0, other_counts);
     assert_lengths("number_run", number_run, &good, 1, other_lengths(10));
     assert_lengths("number_run", number_run, &good, 2, other_lengths(10));
 
@@ -623,9 +640,9 @@ fn the_number_read() {
 
     let good = Call::new(vec![number_state(&[1, 0, 1, 1]), mark(16)], 1);
     let faults = [
-        fault(10, |call| lengthen(call, 1)),
         fault(2, |call| call.small = 2),
         fault(2, |call| call.buffers[0][0] = 7),
+        fault(10, |call| lengthen(call, 1)),
     ];
     assert_order("number_call", number_call, &good, &faults);
     assert_lengths("number_call", number_call, &good, 0, other_lengths(2));
@@ -638,14 +655,14 @@ fn the_page_read() {
     let length = replies.len();
     let good = Call::new(vec![replies, mark(length), mark(32), mark(16)], PAGE as u8);
     let faults = [
+        fault(2, |call| call.buffers[0][200] = 255),
         fault(10, |call| shorten(call, 3)),
         fault(10, |call| shorten(call, 1)),
-        fault(2, |call| call.buffers[0][200] = 255),
         fault(10, |call| lengthen(call, 2)),
         fault(3, |call| call.small = 64),
     ];
     assert_order("page_run", page_run, &good, &faults);
-    assert_lengths("page_run", page_run, &good, 0, other_lengths(10));
+    assert_lengths("page_run", page_run, &good, 0, other_counts);
     assert_lengths("page_run", page_run, &good, 1, other_lengths(10));
     assert_lengths("page_run", page_run, &good, 2, other_lengths(10));
     assert_lengths("page_run", page_run, &good, 3, other_lengths(10));
@@ -660,9 +677,9 @@ fn the_page_read() {
 
     let good = Call::new(vec![page_state(&[1, 0, 0, 0]), mark(32), mark(16)], 0);
     let faults = [
-        fault(10, |call| shorten(call, 2)),
         fault(2, |call| call.small = 255),
         fault(2, |call| call.buffers[0][5] = 64),
+        fault(10, |call| shorten(call, 2)),
         fault(10, |call| shorten(call, 1)),
     ];
     assert_order("page_call", page_call, &good, &faults);
@@ -680,10 +697,10 @@ fn the_publisher() {
     );
     let faults = with(
         vec![
+            fault(1, |call| shorten(call, 0)),
+            fault(2, |call| call.buffers[2][4] = 2),
             fault(10, |call| lengthen(call, 4)),
             fault(10, |call| shorten(call, 3)),
-            fault(2, |call| call.buffers[2][4] = 2),
-            fault(1, |call| shorten(call, 0)),
             fault(10, |call| lengthen(call, 1)),
         ],
         update_faults(4),
@@ -692,7 +709,8 @@ fn the_publisher() {
         let run = publisher_run(function);
         assert_order(name, &run, &good, &faults);
         assert_lengths(name, &run, &good, 0, other_lengths(1));
-        for buffer in 1..5 {
+        assert_lengths(name, &run, &good, 2, other_counts);
+        for buffer in [1, 3, 4] {
             assert_lengths(name, &run, &good, buffer, other_lengths(10));
         }
     }
@@ -700,9 +718,9 @@ fn the_publisher() {
     let good = Call::new(vec![image(), mark(32), mark(48), mark(16)], PAGE as u8);
     let faults = with(
         vec![
+            fault(1, |call| lengthen(call, 0)),
             fault(10, |call| shorten(call, 3)),
             fault(10, |call| lengthen(call, 2)),
-            fault(1, |call| lengthen(call, 0)),
             fault(10, |call| shorten(call, 1)),
         ],
         update_faults(3),
@@ -720,10 +738,10 @@ fn the_publisher() {
         let name = format!("publisher_call after {name}");
         let good = Call::new(vec![publisher_state(function, &[1, 0]), mark(16)], 0);
         let faults = [
-            fault(10, |call| lengthen(call, 1)),
             fault(2, |call| call.small = 2),
             fault(2, |call| call.buffers[0][6] = 64),
             fault(2, |call| call.buffers[0][9] = 2),
+            fault(10, |call| lengthen(call, 1)),
         ];
         assert_order(&name, publisher_call, &good, &faults);
         assert_lengths(&name, publisher_call, &good, 0, other_lengths(2));
@@ -762,8 +780,8 @@ fn pages_above_63() {
 fn the_sheet() {
     let good = Call::new(vec![NUMBER.to_vec(), image(), mark(2392)], 0);
     let faults = [
-        fault(10, |call| lengthen(call, 0)),
         fault(1, |call| shorten(call, 1)),
+        fault(10, |call| lengthen(call, 0)),
         fault(10, |call| lengthen(call, 2)),
         fault(12, |call| call.buffers[1][status(0x050)] = 0xFE),
     ];
@@ -776,8 +794,8 @@ fn the_sheet() {
     assert_eq!(calls::sheet_write(&NUMBER, &image(), &mut sheet), 0);
     let good = Call::new(vec![sheet.clone(), mark(8), mark(2368)], 0);
     let faults = [
-        fault(10, |call| shorten(call, 1)),
         fault(1, |call| lengthen(call, 2)),
+        fault(10, |call| shorten(call, 1)),
         fault(12, |call| call.buffers[0][3] = 1),
     ];
     assert_order("sheet_read", sheet_read, &good, &faults);
@@ -804,8 +822,8 @@ fn the_variation() {
     let good = variation_call(plug_with_rows());
     let faults = with(
         vec![
-            fault(10, |call| shorten(call, 1)),
             fault(1, |call| lengthen(call, 0)),
+            fault(10, |call| shorten(call, 1)),
         ],
         variation_faults::<0>(),
     );

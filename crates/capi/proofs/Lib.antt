@@ -1,2 +1,4 @@
 pub mod Eight
+pub mod Judged
+pub mod Laws
 pub mod Sheets

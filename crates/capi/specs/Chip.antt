@@ -1,20 +1,23 @@
 -- The chip's entries, over the page count n.
 use Prim.Native.Nat.{ℕ}
-use mathlib.Core.Bool.{cond}
+use mathlib.Core.Bool.{cond, _&&_}
 use mathlib.Core.List.{List}
-use Rattle.terms.specs.Told.{Told, judge, Done, unlessRefused}
+use lib.Dec.{eqb}
+use lib.ListN.{length}
+use Rattle.terms.specs.Told.{Told, judge, Done, unlessRefused, following, inOrder}
 use Rattle.memory.specs.Layout.{isImage}
 use Rattle.chip.specs.declared.event.State.{State}
 use Rattle.chip.specs.Event.{powerUp}
-use Rattle.chip.specs.Run.{runAnswer, ranChip, ranReplies}
+use Rattle.chip.specs.Run.{areEvents, runAnswer, ranChip, ranReplies}
 use Rattle.packing.specs.Chip.{chipOf, chipJudged, chipPacked, chipBuffer}
 use Rattle.capi.specs.Answers.{isNumber, eightOf}
-use Rattle.capi.specs.Calls.{following}
 
--- ---- a whole run from power-up: 10 for the number, then 1, 2 and 10 as the chip's own
+-- ---- a whole run from power-up
 
+-- 1; 2 for a byte that is that of no event; 10 for the number and for a buffer that has not a byte for each event
 unfoldable pub wholeAnswer : ℕ → List ℕ → List ℕ → List ℕ → List ℕ → Told Done
-wholeAnswer n number codes img replies = judge (isNumber number) 10 (runAnswer n (powerUp (eightOf number)) codes img replies)
+wholeAnswer n number codes img replies =
+    inOrder (isImage n img) (areEvents codes) (isNumber number && eqb (length replies) (length codes))
 
 unfoldable pub wholeImage : ℕ → List ℕ → List ℕ → List ℕ → List ℕ → List ℕ
 wholeImage n number codes img replies = cond (isNumber number) (ranChip n (powerUp (eightOf number)) codes img replies .image) img

@@ -7,3 +7,4 @@ pub mod Number
 pub mod Page
 pub mod Publisher
 pub mod Sheet
+pub mod Laws

@@ -1,34 +1,35 @@
 -- The page read's entries, over the page count n.
 use Prim.Native.Nat.{ℕ}
-use mathlib.Core.Bool.{Bool}
-use mathlib.Core.List.{List}
+use mathlib.Core.Bool.{true, _&&_}
+use mathlib.Core.List.{List, map}
 use lib.Dec.{eqb}
 use lib.ListN.{length}
-use Rattle.terms.specs.Told.{Told, accepted, judge, Done, done, unlessRefused}
+use Rattle.terms.specs.Told.{Told, accepted, judge, Done, done, unlessRefused, following, inOrder}
 use Rattle.memory.specs.Layout.{isPage}
 use Rattle.master.specs.Next.{Next}
-use Rattle.page_read.specs.PageRead.{startState, readAnswer, readState, readBuffer}
-use Rattle.runs.specs.Page.{reading, pageCalls, pageEvents, pageEnd}
+use Rattle.page_read.specs.PageRead.{inRange, startAnswer, startState, readAnswer, readState, readBuffer}
+use Rattle.runs.specs.Calls.{areReplies, asMany, callCode, lastFrom, toCome}
+use Rattle.runs.specs.Page.{reading, pageCalls, pageAnswers}
 use Rattle.packing.specs.Page.{pageReadOf, pageJudged, pageBuffer}
-use Rattle.capi.specs.Calls.{callJudged, runJudged, following}
+use Rattle.capi.specs.Answers.{isAnswer}
+use Rattle.capi.specs.Calls.{callJudged}
 
--- ---- a whole run: what callers in C can get wrong, then 10 for the page's buffer and 3
+-- ---- a whole run
 
-unfoldable pub pageJudgedBy : ℕ → ℕ → List ℕ → Told Done
-pageJudgedBy n p buffer = judge (eqb (length buffer) 32) 10 (judge (isPage n p) 3 (accepted done))
-
-unfoldable pub pageRunJudged : ℕ → ℕ → List ℕ → List ℕ → List ℕ → List ℕ → Told Done
+-- 2 for a byte that is no reply; 10 for the answer's buffer, the events' and the page's; 3
+unfoldable pub pageRunJudged : ℕ → ℕ → List ℕ → List ℕ → List ℕ → List ℕ → Told (List ℕ)
 pageRunJudged n p replies events buffer answer =
-    following (runJudged replies events answer) (pageJudgedBy n p buffer)
+    following (inOrder true (areReplies replies) (isAnswer answer && (asMany replies events && eqb (length buffer) 32))) (startAnswer n p)
 
 -- what the last call told
 unfoldable pub pageRunTold : ℕ → ℕ → List ℕ → List ℕ → List ℕ → List ℕ → Told Next
 pageRunTold n p replies events buffer answer =
-    following (pageRunJudged n p replies events buffer answer) (pageEnd n (reading (startState n p) buffer) replies)
+    following (pageRunJudged n p replies events buffer answer) (lastFrom toCome (pageAnswers n (reading (startState n p) buffer) replies))
 
+-- a byte for each call
 unfoldable pub pageRunEvents : ℕ → ℕ → List ℕ → List ℕ → List ℕ → List ℕ → List ℕ
 pageRunEvents n p replies events buffer answer =
-    unlessRefused (pageRunJudged n p replies events buffer answer) (pageEvents n (reading (startState n p) buffer) replies events) events
+    unlessRefused (pageRunJudged n p replies events buffer answer) (map callCode (pageAnswers n (reading (startState n p) buffer) replies)) events
 
 unfoldable pub pageRunBuffer : ℕ → ℕ → List ℕ → List ℕ → List ℕ → List ℕ → List ℕ
 pageRunBuffer n p replies events buffer answer =
@@ -43,23 +44,19 @@ pageStarted n p state = judge (eqb (length state) 48) 10 (judge (isPage n p) 3 (
 unfoldable pub pageStartState : ℕ → ℕ → List ℕ → List ℕ
 pageStartState n p state = unlessRefused (pageStarted n p state) (pageBuffer (startState n p) state) state
 
--- a call on the state that bytes hold: 2 for bytes that are no state, then the read's own
-unfoldable pub pageStepTold : ℕ → List ℕ → Bool → List ℕ → Told Next
-pageStepTold n state reply buffer = following (pageJudged state) (readAnswer n (pageReadOf state) reply buffer)
+-- a call on the state that bytes hold: 2 for bytes that are no state, for the state and for the reply, 10 for the answer's buffer
+unfoldable pub pageCallJudged : ℕ → List ℕ → ℕ → List ℕ → Told Done
+pageCallJudged n state reply answer = following (pageJudged state) (callJudged (inRange n (pageReadOf state)) reply answer)
 
-unfoldable pub pageStepState : ℕ → List ℕ → Bool → List ℕ → List ℕ
-pageStepState n state reply buffer =
-    unlessRefused (pageJudged state) (pageBuffer (readState n (pageReadOf state) reply buffer) state) state
-
-unfoldable pub pageStepBuffer : ℕ → List ℕ → Bool → List ℕ → List ℕ
-pageStepBuffer n state reply buffer = unlessRefused (pageJudged state) (readBuffer n (pageReadOf state) reply buffer) buffer
-
--- 10 for the answer's buffer and 2 for the reply come first
+-- then the read's own, 10 for the page's buffer among them
 unfoldable pub pageCallTold : ℕ → List ℕ → ℕ → List ℕ → List ℕ → Told Next
-pageCallTold n state reply buffer answer = following (callJudged reply answer) (pageStepTold n state (eqb reply 1) buffer)
+pageCallTold n state reply buffer answer =
+    following (pageCallJudged n state reply answer) (readAnswer n (pageReadOf state) (eqb reply 1) buffer)
 
 unfoldable pub pageCallState : ℕ → List ℕ → ℕ → List ℕ → List ℕ → List ℕ
-pageCallState n state reply buffer answer = unlessRefused (callJudged reply answer) (pageStepState n state (eqb reply 1) buffer) state
+pageCallState n state reply buffer answer =
+    unlessRefused (pageCallJudged n state reply answer) (pageBuffer (readState n (pageReadOf state) (eqb reply 1) buffer) state) state
 
 unfoldable pub pageCallBuffer : ℕ → List ℕ → ℕ → List ℕ → List ℕ → List ℕ
-pageCallBuffer n state reply buffer answer = unlessRefused (callJudged reply answer) (pageStepBuffer n state (eqb reply 1) buffer) buffer
+pageCallBuffer n state reply buffer answer =
+    unlessRefused (pageCallJudged n state reply answer) (readBuffer n (pageReadOf state) (eqb reply 1) buffer) buffer

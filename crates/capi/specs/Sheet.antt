@@ -1,23 +1,23 @@
--- The entries on stored sheets, over the page count n. Buffers that only callers in C have are judged first, with 10.
+-- The entries on stored sheets, over the page count n. Buffers that only callers in C have are judged after 1, with 10.
 use Prim.Native.Nat.{ℕ, _/_, _%_}
-use mathlib.Core.Bool.{cond}
+use mathlib.Core.Bool.{true, cond}
 use mathlib.Core.List.{List, [], _∷_}
-use Rattle.terms.specs.Told.{Told, refused, accepted, judge, Done, done, unlessRefused}
+use Rattle.terms.specs.Told.{Told, refused, accepted, judge, Done, done, unlessRefused, following, inOrder}
 use Rattle.memory.specs.Layout.{isImage}
-use Rattle.sheet.specs.Stored.{isSheet, numberPart, imagePart, writeAnswer, writeBuffer}
+use Rattle.sheet.specs.Stored.{isSheet, numberPart, imagePart, sheetOf, writeAnswer}
 use Rattle.sheet.specs.List.{listAnswer, listBuffer}
 use Rattle.capi.specs.Answers.{isAnswer, isNumber, eightOf}
 
--- 10 for the number, then 1, 10 and 12 as the sheet's own
+-- 1, 10 for the number, then 10 and 12 as the sheet's own
 unfoldable pub sheetWritten : ℕ → List ℕ → List ℕ → List ℕ → Told Done
-sheetWritten n number img sheet = judge (isNumber number) 10 (writeAnswer n img sheet)
+sheetWritten n number img sheet = following (inOrder (isImage n img) true (isNumber number)) (writeAnswer n img sheet)
 
 unfoldable pub sheetBuffer : ℕ → List ℕ → List ℕ → List ℕ → List ℕ
-sheetBuffer n number img sheet = cond (isNumber number) (writeBuffer n (eightOf number) img sheet) sheet
+sheetBuffer n number img sheet = unlessRefused (sheetWritten n number img sheet) (sheetOf n (eightOf number) img) sheet
 
--- 10 for the number's buffer, 1 for the image's, 12
+-- 1 for the image's buffer, 10 for the number's, 12
 unfoldable pub sheetRead : ℕ → List ℕ → List ℕ → List ℕ → Told Done
-sheetRead n sheet number img = judge (isNumber number) 10 (judge (isImage n img) 1 (judge (isSheet n sheet) 12 (accepted done)))
+sheetRead n sheet number img = following (inOrder (isImage n img) true (isNumber number)) (judge (isSheet n sheet) 12 (accepted done))
 
 unfoldable pub readNumber : ℕ → List ℕ → List ℕ → List ℕ → List ℕ
 readNumber n sheet number img = unlessRefused (sheetRead n sheet number img) (numberPart n sheet) number

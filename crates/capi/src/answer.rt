@@ -1,11 +1,12 @@
 // What a caller in C is told.
 ghost use mathlib.Core.Path.{_≡_};
 ghost use mathlib.Core.List.{[], _∷_};
-ghost use Rattle.terms.specs.Told.{accepted, refusing, judgedTold};
+ghost use Rattle.terms.specs.Told.{accepted, refusing, judgedTold, following};
 ghost use Rattle.terms.specs.Refusal.{numberOf};
 ghost use Rattle.bus.specs.Codes.{codeOf};
 ghost use Rattle.memory.specs.Page.{copied};
-ghost use Rattle.capi.specs.Answers.{codeIn, isAnswer, isNumber, eightOf, answered};
+ghost use Rattle.master.specs.Next.{Next};
+ghost use Rattle.capi.specs.Answers.{codeIn, isAnswer, isNumber, eightOf, answered, nextAnswered};
 use bus::Event;
 use memory::image;
 use memory::page;
@@ -68,6 +69,17 @@ pub fn refuse(refusal: Refusal, answer: &mut [u8]) -> u32
 {
     put_value(refusal, answer);
     number(refusal)
+}
+
+// What was judged so far, and then this refusal.
+pub fn refuse_after(judged: Judged, refusal: Refusal, answer: &mut [u8]) -> u32
+    ensures code { λ r. ⌜ r ≡ codeIn (following (judgedTold judged) (refusing {A = Next} refusal)) ⌝ }
+    ensures answer { λ r. ⌜ now (answer .exit) ≡ nextAnswered (following (judgedTold judged) (refusing {A = Next} refusal)) (now (answer .entry)) ⌝ }
+{
+    match judged {
+        Judged::Refused(r) => refuse(r, answer),
+        Judged::Accepted => refuse(refusal, answer),
+    }
 }
 
 fn put_value(refusal: Refusal, answer: &mut [u8])

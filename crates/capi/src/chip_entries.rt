@@ -1,10 +1,9 @@
 // The chip: a whole run from power-up, and step by step with its state in 24 bytes that the caller lends.
 ghost use mathlib.Core.Path.{_≡_};
-ghost use Rattle.terms.specs.Told.{judgedTold, unlessRefused};
+ghost use Rattle.terms.specs.Told.{judgedTold, unlessRefused, following};
 ghost use Rattle.chip.specs.Run.{runAnswer, ranChip, ranReplies};
 ghost use Rattle.packing.specs.Chip.{chipBuffer};
 ghost use Rattle.capi.specs.Answers.{codeIn};
-ghost use Rattle.capi.specs.Calls.{following};
 ghost use Rattle.capi.specs.Chip.{wholeAnswer, wholeImage, wholeReplies, powerAnswer, powerState, stateAfter, eventsAnswer, eventsState, eventsImage, eventsReplies};
 use crate::answer;
 use chip::event;
@@ -13,9 +12,10 @@ use memory::layout;
 use packing::chip_state;
 use packing::chip_state::Unpacked;
 use terms::address::Page;
+use terms::refusal;
 use terms::refusal::Judged;
 
-// The events, a byte each, on a chip with this number from power-up on; a byte for each reply. Refused: 10, 1, 2.
+// The events, a byte each, on a chip with this number from power-up on; a byte for each reply. Refused: 1, 2, 10.
 #[no_mangle]
 pub extern "C" fn ds2505_chip_run(
     number: &[u8],
@@ -28,7 +28,11 @@ pub extern "C" fn ds2505_chip_run(
     ensures replies { λ r. ⌜ now (replies .exit) ≡ wholeReplies 64 (now (number .entry)) (now (events .entry)) (now (image .entry)) (now (replies .entry)) ⌝ }
 {
     if !answer::is_number(number) {
-        return 10;
+        return answer::code(refusal::in_order(
+            layout::is_image(image, Page(layout::DS2505)),
+            event::are_events(events),
+            false,
+        ));
     }
     let ran = event::run(
         event::power_up(answer::eight_of(number)),

@@ -9,6 +9,7 @@ ghost use Rattle.capi.specs.Image.{verdictValues, walkedValues, walkValu
 use crate::answer;
 use chip::free::FreePage;
 use chip::walk::Walked;
+use memory::layout;
 use terms::address::Page;
 use terms::refusal::Refusal;
 use terms::verdict::Verdict;
@@ -40,12 +41,15 @@ fn tell_walked(walked: Walked, answer: &mut [u8]) -> u32
     }
 }
 
-// How the walk from a page ends: 0 with the final page and the hops, 4, or 5 with the number. Refused: 10, 1, 3.
+// How the walk from a page ends: 0 with the final page and the hops, 4, or 5 with the number. Refused: 1, 10, 3.
 #[no_mangle]
 pub extern "C" fn ds2505_walk(image: &[u8], page: u8, answer: &mut [u8]) -> u32
     ensures code { λ r. ⌜ r ≡ codeIn (walkValues 64 (now (image .entry)) page (now (answer .entry))) ⌝ }
     ensures answer { λ r. ⌜ now (answer .exit) ≡ answered (walkValues 64 (now (image .entry)) page (now (answer .entry))) (now (answer .entry)) ⌝ }
 {
+    if !layout::is_image(image, Page(layout::DS2505)) {
+        return 1;
+    }
     if !answer::is_answer(answer) {
         return 10;
     }
@@ -75,12 +79,15 @@ fn tell_found(found: FreePage, answer: &mut [u8]) -> u32
     }
 }
 
-// The lowest free page other than the one given. Refused: 10, 1, 3, 8.
+// The lowest free page other than the one given. Refused: 1, 10, 3, 8.
 #[no_mangle]
 pub extern "C" fn ds2505_free_page(image: &[u8], other: u8, answer: &mut [u8]) -> u32
     ensures code { λ r. ⌜ r ≡ codeIn (freeValues 64 (now (image .entry)) other (now (answer .entry))) ⌝ }
     ensures answer { λ r. ⌜ now (answer .exit) ≡ answered (freeValues 64 (now (image .entry)) other (now (answer .entry))) (now (answer .entry)) ⌝ }
 {
+    if !layout::is_image(image, Page(layout::DS2505)) {
+        return 1;
+    }
     if !answer::is_answer(answer) {
         return 10;
     }
@@ -101,7 +108,7 @@ fn tell_update(updated: Updated, answer: &mut [u8]) -> u32
     }
 }
 
-// A whole update of a page in a mode, on the image of a chip with this number, cut after so many events. Refused: 10, 1, 3, 4, 5, 20, 9, 8.
+// A whole update of a page in a mode, on the image of a chip with this number, cut after so many events. Refused: 1, 10, 3, 4, 5, 20, 9, 8.
 fn update_in(
     mode: WriteMode,
     image: &mut [u8],
@@ -115,6 +122,9 @@ fn update_in(
     ensures answer { λ r. ⌜ now (answer .exit) ≡ answered (updateValues 64 (now (image .entry)) (now (number .entry)) (now (new .entry)) page (now (answer .entry))) (now (answer .entry)) ⌝ }
     ensures image { λ r. ⌜ now (image .exit) ≡ updateImage 64 mode (now (image .entry)) (now (number .entry)) (now (new .entry)) page events (now (answer .entry)) ⌝ }
 {
+    if !layout::is_image(image, Page(layout::DS2505)) {
+        return 1;
+    }
     if !answer::is_answer(answer) {
         return 10;
     }

@@ -4,7 +4,9 @@ ghost use Rattle.tenths.specs.Tenths.{tenthsTold};
 ghost use Rattle.capi.specs.Answers.{codeIn, answered};
 ghost use Rattle.capi.specs.Lookup.{tenthsValues, variationValues, sheetVariationValues, changeValues};
 use crate::answer;
+use memory::layout;
 use tenths::Tenths;
+use terms::address::Page;
 
 // Tenths of a degree in sixteen bits, low byte first, or a refusal.
 fn tell_tenths(told: Tenths, answer: &mut [u8]) -> u32
@@ -21,7 +23,7 @@ fn tell_tenths(told: Tenths, answer: &mut [u8]) -> u32
     }
 }
 
-// The variation at a latitude and a column. Refused: 10, 1, 4, 5, 16, 17, 18, 4, 5, 19.
+// The variation at a latitude and a column. Refused: 1, 10, 4, 5, 16, 17, 18, 4, 5, 19.
 #[no_mangle]
 pub extern "C" fn ds2505_variation(
     image: &[u8],
@@ -32,13 +34,16 @@ pub extern "C" fn ds2505_variation(
     ensures code { λ r. ⌜ r ≡ codeIn (variationValues 64 (now (image .entry)) latitude column (now (answer .entry))) ⌝ }
     ensures answer { λ r. ⌜ now (answer .exit) ≡ answered (variationValues 64 (now (image .entry)) latitude column (now (answer .entry))) (now (answer .entry)) ⌝ }
 {
+    if !layout::is_image(image, Page(layout::DS2505)) {
+        return 1;
+    }
     if !answer::is_answer(answer) {
         return 10;
     }
     tell_tenths(lookup::variation::at(image, latitude, column), answer)
 }
 
-// The same from a stored sheet. Refused: 10, 12, then as above.
+// The same from a stored sheet. Refused: 10, 12, then as above from 4 on.
 #[no_mangle]
 pub extern "C" fn ds2505_sheet_variation(
     sheet: &[u8],

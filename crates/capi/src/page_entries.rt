@@ -1,12 +1,15 @@
 // The page read: fed a list of replies, and step by step with its state in 48 bytes that the caller lends.
 ghost use mathlib.Core.Path.{_≡_};
-ghost use Rattle.terms.specs.Told.{judgedTold, unlessRefused};
-ghost use Rattle.page_read.specs.PageRead.{readTold, startState, readAnswer, readState, readBuffer};
+ghost use mathlib.Core.List.{map};
+ghost use lib.Dec.{eqb};
+ghost use Rattle.terms.specs.Told.{judgedTold, unlessRefused, following};
+ghost use Rattle.page_read.specs.PageRead.{inRange, readTold, startTold, readAnswer, readState, readBuffer};
 ghost use Rattle.packing.specs.Page.{pageBuffer};
-ghost use Rattle.runs.specs.Page.{reading, pageCalls, pageEvents, pageEnd};
-ghost use Rattle.capi.specs.Calls.{following};
+ghost use Rattle.runs.specs.Page.{reading, pageCalls, pageAnswers, pageFedJudged, pageFedTold, pageFed, pageFedEvents};
+ghost use Rattle.runs.specs.Calls.{callCode, lastFrom, toCome};
+ghost use Rattle.capi.specs.Calls.{callJudged, startedJudged};
 ghost use Rattle.capi.specs.Answers.{codeIn, nextAnswered};
-ghost use Rattle.capi.specs.Page.{pageJudgedBy, pageRunJudged, pageRunTold, pageRunEvents, pageRunBuffer, pageStarted, pageStartState, pageStepTold, pageStepState, pageStepBuffer, pageCallTold, pageCallState, pageCallBuffer};
+ghost use Rattle.capi.specs.Page.{pageRunTold, pageRunEvents, pageRunBuffer, pageStarted, pageStartState, pageCallTold, pageCallState, pageCallBuffer};
 use crate::answer;
 use crate::calls;
 use memory::layout;
@@ -14,6 +17,8 @@ use packing::page_state;
 use packing::page_state::Unpacked;
 use page_read::Answer;
 use page_read::PageRead;
+use page_read::StartAnswer;
+use page_read::Started;
 use terms::address::Page;
 use terms::refusal::Judged;
 use terms::refusal::Refusal;
@@ -36,73 +41,56 @@ fn tell(told: Answer, answer: &mut [u8]) -> u32
     }
 }
 
-fn judge_page(page: u8, buffer: &[u8]) -> Judged
-    ensures { λ r. ⌜ judgedTold r ≡ pageJudgedBy 64 page (now (buffer .entry)) ⌝ }
-{
-    if buffer.len() != 32 {
-        return Judged::Refused(Refusal::BufferLength);
-    }
-    if !layout::is_page(Page(layout::DS2505), Page(page)) {
-        return Judged::Refused(Refusal::PageNumber);
-    }
-    Judged::Accepted
-}
-
-fn judge_after(judged: Judged, page: u8, buffer: &[u8]) -> Judged
-    ensures { λ r. ⌜ judgedTold r ≡ following (judgedTold judged) (pageJudgedBy 64 page (now (buffer .entry))) ⌝ }
-{
-    match judged {
-        Judged::Refused(r) => Judged::Refused(r),
-        Judged::Accepted => judge_page(page, buffer),
-    }
-}
-
-fn judge_run(page: u8, replies: &[u8], events: &[u8], buffer: &[u8], answer: &[u8]) -> Judged
-    ensures { λ r. ⌜ judgedTold r ≡ pageRunJudged 64 page (now (replies .entry)) (now (events .entry)) (now (buffer .entry)) (now (answer .entry)) ⌝ }
-{
-    judge_after(calls::judge_run(replies, events, answer), page, buffer)
-}
-
 fn run_told(
-    page: u8,
+    begun: PageRead,
     replies: &[u8],
     events: &mut [u8],
     buffer: &mut [u8],
     answer: &mut [u8],
 ) -> u32
-    ensures code { λ r. ⌜ r ≡ codeIn (pageEnd 64 (reading (startState 64 page) (now (buffer .entry))) (now (replies .entry))) ⌝ }
-    ensures events { λ r. ⌜ now (events .exit) ≡ pageEvents 64 (reading (startState 64 page) (now (buffer .entry))) (now (replies .entry)) (now (events .entry)) ⌝ }
-    ensures buffer { λ r. ⌜ now (buffer .exit) ≡ pageCalls 64 (reading (startState 64 page) (now (buffer .entry))) (now (replies .entry)) .buffer ⌝ }
-    ensures answer { λ r. ⌜ now (answer .exit) ≡ nextAnswered (pageEnd 64 (reading (startState 64 page) (now (buffer .entry))) (now (replies .entry))) (now (answer .entry)) ⌝ }
+    ensures code { λ r. ⌜ r ≡ codeIn (pageFedTold 64 (reading begun (now (buffer .entry))) (now (replies .entry)) (now (events .entry))) ⌝ }
+    ensures events { λ r. ⌜ now (events .exit) ≡ pageFedEvents 64 (reading begun (now (buffer .entry))) (now (replies .entry)) (now (events .entry)) ⌝ }
+    ensures buffer { λ r. ⌜ now (buffer .exit) ≡ pageFed 64 (reading begun (now (buffer .entry))) (now (replies .entry)) (now (events .entry)) .buffer ⌝ }
+    ensures answer { λ r. ⌜ now (answer .exit) ≡ nextAnswered (pageFedTold 64 (reading begun (now (buffer .entry))) (now (replies .entry)) (now (events .entry))) (now (answer .entry)) ⌝ }
 {
-    let started = page_read::start(Page(page));
-    let state = started.state;
-    let last = runs::page::run(state, replies, events, buffer);
+    let last = runs::page::run(begun, replies, events, buffer);
     let told = last.answer;
     tell(told, answer)
 }
 
-fn run_judged(
-    judged: Judged,
-    page: u8,
+fn run_started(
+    begun: Started,
     replies: &[u8],
     events: &mut [u8],
     buffer: &mut [u8],
     answer: &mut [u8],
 ) -> u32
-    ensures code { λ r. ⌜ r ≡ codeIn (following (judgedTold judged) (pageEnd 64 (reading (startState 64 page) (now (buffer .entry))) (now (replies .entry)))) ⌝ }
-    ensures events { λ r. ⌜ now (events .exit) ≡ unlessRefused (judgedTold judged) (pageEvents 64 (reading (startState 64 page) (now (buffer .entry))) (now (replies .entry)) (now (events .entry))) (now (events .entry)) ⌝ }
-    ensures buffer { λ r. ⌜ now (buffer .exit) ≡ unlessRefused (judgedTold judged) (pageCalls 64 (reading (startState 64 page) (now (buffer .entry))) (now (replies .entry)) .buffer) (now (buffer .entry)) ⌝ }
-    ensures answer { λ r. ⌜ now (answer .exit) ≡ nextAnswered (following (judgedTold judged) (pageEnd 64 (reading (startState 64 page) (now (buffer .entry))) (now (replies .entry)))) (now (answer .entry)) ⌝ }
+    ensures code { λ r. ⌜ r ≡ codeIn (following (startedJudged (pageFedJudged 64 (reading (begun .state) (now (buffer .entry))) (now (replies .entry)) (now (events .entry))) (now (answer .entry)) (startTold (begun .answer))) (lastFrom toCome (pageAnswers 64 (reading (begun .state) (now (buffer .entry))) (now (replies .entry))))) ⌝ }
+    ensures events { λ r. ⌜ now (events .exit) ≡ unlessRefused (startedJudged (pageFedJudged 64 (reading (begun .state) (now (buffer .entry))) (now (replies .entry)) (now (events .entry))) (now (answer .entry)) (startTold (begun .answer))) (map callCode (pageAnswers 64 (reading (begun .state) (now (buffer .entry))) (now (replies .entry)))) (now (events .entry)) ⌝ }
+    ensures buffer { λ r. ⌜ now (buffer .exit) ≡ unlessRefused (startedJudged (pageFedJudged 64 (reading (begun .state) (now (buffer .entry))) (now (replies .entry)) (now (events .entry))) (now (answer .entry)) (startTold (begun .answer))) (pageCalls 64 (reading (begun .state) (now (buffer .entry))) (now (replies .entry)) .buffer) (now (buffer .entry)) ⌝ }
+    ensures answer { λ r. ⌜ now (answer .exit) ≡ nextAnswered (following (startedJudged (pageFedJudged 64 (reading (begun .state) (now (buffer .entry))) (now (replies .entry)) (now (events .entry))) (now (answer .entry)) (startTold (begun .answer))) (lastFrom toCome (pageAnswers 64 (reading (begun .state) (now (buffer .entry))) (now (replies .entry))))) (now (answer .entry)) ⌝ }
 {
-    match judged {
-        Judged::Refused(r) => answer::refuse(r, answer),
-        Judged::Accepted => run_told(page, replies, events, buffer, answer),
+    let told = begun.answer;
+    let state = begun.state;
+    if !answer::is_answer(answer) {
+        return answer::refuse_after(
+            runs::page::judge(state, replies, events, buffer),
+            Refusal::BufferLength,
+            answer,
+        );
+    }
+    match told {
+        StartAnswer::Refused(r) => answer::refuse_after(
+            runs::page::judge(state, replies, events, buffer),
+            r,
+            answer,
+        ),
+        StartAnswer::Ready => run_told(state, replies, events, buffer, answer),
     }
 }
 
 // The read of a page fed these replies: a byte for each call, its event or FFh, and what the last call told. The buffer gets the page's
-// bytes where Final is told. Refused: 10, 2, 3.
+// bytes where Final is told. Refused: 2, 10, 3.
 #[no_mangle]
 pub extern "C" fn ds2505_page_run(
     page: u8,
@@ -116,9 +104,8 @@ pub extern "C" fn ds2505_page_run(
     ensures buffer { λ r. ⌜ now (buffer .exit) ≡ pageRunBuffer 64 page (now (replies .entry)) (now (events .entry)) (now (buffer .entry)) (now (answer .entry)) ⌝ }
     ensures answer { λ r. ⌜ now (answer .exit) ≡ nextAnswered (pageRunTold 64 page (now (replies .entry)) (now (events .entry)) (now (buffer .entry)) (now (answer .entry))) (now (answer .entry)) ⌝ }
 {
-    run_judged(
-        judge_run(page, replies, events, buffer, answer),
-        page,
+    run_started(
+        page_read::start(Page(page)),
         replies,
         events,
         buffer,
@@ -163,56 +150,58 @@ fn call_state(
     tell(told, answer)
 }
 
-fn call_unpacked(
-    unpacked: Unpacked,
+fn call_judged(
+    judged: Judged,
+    before: PageRead,
     reply: bool,
     state: &mut [u8],
     buffer: &mut [u8],
     answer: &mut [u8],
 ) -> u32
-    ensures code { λ r. ⌜ r ≡ codeIn (following (judgedTold (unpacked .judged)) (readAnswer 64 (unpacked .state) reply (now (buffer .entry)))) ⌝ }
-    ensures state { λ r. ⌜ now (state .exit) ≡ unlessRefused (judgedTold (unpacked .judged)) (pageBuffer (readState 64 (unpacked .state) reply (now (buffer .entry))) (now (state .entry))) (now (state .entry)) ⌝ }
-    ensures buffer { λ r. ⌜ now (buffer .exit) ≡ unlessRefused (judgedTold (unpacked .judged)) (readBuffer 64 (unpacked .state) reply (now (buffer .entry))) (now (buffer .entry)) ⌝ }
-    ensures answer { λ r. ⌜ now (answer .exit) ≡ nextAnswered (following (judgedTold (unpacked .judged)) (readAnswer 64 (unpacked .state) reply (now (buffer .entry)))) (now (answer .entry)) ⌝ }
+    ensures code { λ r. ⌜ r ≡ codeIn (following (judgedTold judged) (readAnswer 64 before reply (now (buffer .entry)))) ⌝ }
+    ensures state { λ r. ⌜ now (state .exit) ≡ unlessRefused (judgedTold judged) (pageBuffer (readState 64 before reply (now (buffer .entry))) (now (state .entry))) (now (state .entry)) ⌝ }
+    ensures buffer { λ r. ⌜ now (buffer .exit) ≡ unlessRefused (judgedTold judged) (readBuffer 64 before reply (now (buffer .entry))) (now (buffer .entry)) ⌝ }
+    ensures answer { λ r. ⌜ now (answer .exit) ≡ nextAnswered (following (judgedTold judged) (readAnswer 64 before reply (now (buffer .entry)))) (now (answer .entry)) ⌝ }
 {
-    let judged = unpacked.judged;
-    let before = unpacked.state;
     match judged {
         Judged::Refused(r) => answer::refuse(r, answer),
         Judged::Accepted => call_state(before, reply, state, buffer, answer),
     }
 }
 
-// A call on the state that bytes hold.
-fn step(state: &mut [u8], reply: bool, buffer: &mut [u8], answer: &mut [u8]) -> u32
-    ensures code { λ r. ⌜ r ≡ codeIn (pageStepTold 64 (now (state .entry)) reply (now (buffer .entry))) ⌝ }
-    ensures state { λ r. ⌜ now (state .exit) ≡ pageStepState 64 (now (state .entry)) reply (now (buffer .entry)) ⌝ }
-    ensures buffer { λ r. ⌜ now (buffer .exit) ≡ pageStepBuffer 64 (now (state .entry)) reply (now (buffer .entry)) ⌝ }
-    ensures answer { λ r. ⌜ now (answer .exit) ≡ nextAnswered (pageStepTold 64 (now (state .entry)) reply (now (buffer .entry))) (now (answer .entry)) ⌝ }
-{
-    call_unpacked(page_state::unpack(state), reply, state, buffer, answer)
-}
-
-fn call_judged(
-    judged: Judged,
-    reply: bool,
+fn call_unpacked(
+    unpacked: Unpacked,
+    reply: u8,
     state: &mut [u8],
     buffer: &mut [u8],
     answer: &mut [u8],
 ) -> u32
-    ensures code { λ r. ⌜ r ≡ codeIn (following (judgedTold judged) (pageStepTold 64 (now (state .entry)) reply (now (buffer .entry)))) ⌝ }
-    ensures state { λ r. ⌜ now (state .exit) ≡ unlessRefused (judgedTold judged) (pageStepState 64 (now (state .entry)) reply (now (buffer .entry))) (now (state .entry)) ⌝ }
-    ensures buffer { λ r. ⌜ now (buffer .exit) ≡ unlessRefused (judgedTold judged) (pageStepBuffer 64 (now (state .entry)) reply (now (buffer .entry))) (now (buffer .entry)) ⌝ }
-    ensures answer { λ r. ⌜ now (answer .exit) ≡ nextAnswered (following (judgedTold judged) (pageStepTold 64 (now (state .entry)) reply (now (buffer .entry)))) (now (answer .entry)) ⌝ }
+    ensures code { λ r. ⌜ r ≡ codeIn (following (following (judgedTold (unpacked .judged)) (callJudged (inRange 64 (unpacked .state)) reply (now (answer .entry)))) (readAnswer 64 (unpacked .state) (eqb reply 1) (now (buffer .entry)))) ⌝ }
+    ensures state { λ r. ⌜ now (state .exit) ≡ unlessRefused (following (judgedTold (unpacked .judged)) (callJudged (inRange 64 (unpacked .state)) reply (now (answer .entry)))) (pageBuffer (readState 64 (unpacked .state) (eqb reply 1) (now (buffer .entry))) (now (state .entry))) (now (state .entry)) ⌝ }
+    ensures buffer { λ r. ⌜ now (buffer .exit) ≡ unlessRefused (following (judgedTold (unpacked .judged)) (callJudged (inRange 64 (unpacked .state)) reply (now (answer .entry)))) (readBuffer 64 (unpacked .state) (eqb reply 1) (now (buffer .entry))) (now (buffer .entry)) ⌝ }
+    ensures answer { λ r. ⌜ now (answer .exit) ≡ nextAnswered (following (following (judgedTold (unpacked .judged)) (callJudged (inRange 64 (unpacked .state)) reply (now (answer .entry)))) (readAnswer 64 (unpacked .state) (eqb reply 1) (now (buffer .entry)))) (now (answer .entry)) ⌝ }
 {
+    let judged = unpacked.judged;
+    let before = unpacked.state;
     match judged {
         Judged::Refused(r) => answer::refuse(r, answer),
-        Judged::Accepted => step(state, reply, buffer, answer),
+        Judged::Accepted => call_judged(
+            calls::judge_call(
+                page_read::in_range(Page(layout::DS2505), before),
+                reply,
+                answer,
+            ),
+            before,
+            reply == 1,
+            state,
+            buffer,
+            answer,
+        ),
     }
 }
 
 // One call with a reply, 0 or 1: the next event, or Final with the page and the hops, and then the buffer has the page's bytes.
-// Refused: 10, 2, 13, 6, 4, 5.
+// Refused: 2, 10, 13, 6, 4, 5.
 #[no_mangle]
 pub extern "C" fn ds2505_page_call(
     state: &mut [u8],
@@ -225,11 +214,5 @@ pub extern "C" fn ds2505_page_call(
     ensures buffer { λ r. ⌜ now (buffer .exit) ≡ pageCallBuffer 64 (now (state .entry)) reply (now (buffer .entry)) (now (answer .entry)) ⌝ }
     ensures answer { λ r. ⌜ now (answer .exit) ≡ nextAnswered (pageCallTold 64 (now (state .entry)) reply (now (buffer .entry)) (now (answer .entry))) (now (answer .entry)) ⌝ }
 {
-    call_judged(
-        calls::judge_call(reply, answer),
-        reply == 1,
-        state,
-        buffer,
-        answer,
-    )
+    call_unpacked(page_state::unpack(state), reply, state, buffer, answer)
 }

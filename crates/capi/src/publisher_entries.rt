@@ -1,15 +1,19 @@
 // The publisher: fed a list of replies, and step by step with its state in 48 bytes that the caller lends.
 ghost use mathlib.Core.Path.{_≡_};
-ghost use Rattle.terms.specs.Told.{judgedTold, unlessRefused};
+ghost use mathlib.Core.List.{map};
+ghost use lib.Dec.{eqb};
+ghost use Rattle.terms.specs.Told.{judgedTold, unlessRefused, following};
 ghost use Rattle.publisher.specs.Start.{startTold};
-ghost use Rattle.publisher.specs.Call.{turnTold, callAnswer, callState};
+ghost use Rattle.publisher.specs.Call.{inRange, turnTold, callAnswer, callState};
 ghost use Rattle.packing.specs.Publisher.{publisherBuffer};
-ghost use Rattle.runs.specs.Publisher.{publisherEvents, publisherEnd};
-ghost use Rattle.capi.specs.Calls.{following};
+ghost use Rattle.runs.specs.Calls.{callCode, lastFrom, toCome};
+ghost use Rattle.runs.specs.Publisher.{publisherAnswers, publisherFedJudged, publisherFedTold, publisherFedEvents};
+ghost use Rattle.capi.specs.Calls.{callJudged, startedJudged};
 ghost use Rattle.capi.specs.Answers.{codeIn, answered, nextAnswered};
-ghost use Rattle.capi.specs.Publisher.{started, publishTold, publishEvents, publisherRunTold, publisherRunEvents, publisherStarted, publisherStartState, publisherStepTold, publisherStepState, publisherCallTold, publisherCallState};
+ghost use Rattle.capi.specs.Publisher.{publisherRunTold, publisherRunEvents, publisherStarted, publisherStartState, publisherCallTold, publisherCallState};
 use crate::answer;
 use crate::calls;
+use memory::layout;
 use packing::publisher_state;
 use packing::publisher_state::Unpacked;
 use publisher::Answer;
@@ -18,6 +22,7 @@ use publisher::StartAnswer;
 use publisher::Started;
 use terms::address::Page;
 use terms::refusal::Judged;
+use terms::refusal::Refusal;
 use terms::write_mode::WriteMode;
 
 // What a call told, and its code.
@@ -39,9 +44,9 @@ fn tell(told: Answer, answer: &mut [u8]) -> u32
 }
 
 fn run_told(begun: Publisher, replies: &[u8], events: &mut [u8], answer: &mut [u8]) -> u32
-    ensures code { λ r. ⌜ r ≡ codeIn (publisherEnd 64 begun (now (replies .entry))) ⌝ }
-    ensures events { λ r. ⌜ now (events .exit) ≡ publisherEvents 64 begun (now (replies .entry)) (now (events .entry)) ⌝ }
-    ensures answer { λ r. ⌜ now (answer .exit) ≡ nextAnswered (publisherEnd 64 begun (now (replies .entry))) (now (answer .entry)) ⌝ }
+    ensures code { λ r. ⌜ r ≡ codeIn (publisherFedTold 64 begun (now (replies .entry)) (now (events .entry))) ⌝ }
+    ensures events { λ r. ⌜ now (events .exit) ≡ publisherFedEvents 64 begun (now (replies .entry)) (now (events .entry)) ⌝ }
+    ensures answer { λ r. ⌜ now (answer .exit) ≡ nextAnswered (publisherFedTold 64 begun (now (replies .entry)) (now (events .entry))) (now (answer .entry)) ⌝ }
 {
     let last = runs::publish::run(begun, replies, events);
     let told = last.answer;
@@ -49,45 +54,29 @@ fn run_told(begun: Publisher, replies: &[u8], events: &mut [u8], answer: &mut [u
 }
 
 fn run_started(begun: Started, replies: &[u8], events: &mut [u8], answer: &mut [u8]) -> u32
-    ensures code { λ r. ⌜ r ≡ codeIn (started (startTold (begun .answer)) (publisherEnd 64 (begun .state) (now (replies .entry)))) ⌝ }
-    ensures events { λ r. ⌜ now (events .exit) ≡ unlessRefused (startTold (begun .answer)) (publisherEvents 64 (begun .state) (now (replies .entry)) (now (events .entry))) (now (events .entry)) ⌝ }
-    ensures answer { λ r. ⌜ now (answer .exit) ≡ nextAnswered (started (startTold (begun .answer)) (publisherEnd 64 (begun .state) (now (replies .entry)))) (now (answer .entry)) ⌝ }
+    ensures code { λ r. ⌜ r ≡ codeIn (following (startedJudged (publisherFedJudged 64 (begun .state) (now (replies .entry)) (now (events .entry))) (now (answer .entry)) (startTold (begun .answer))) (lastFrom toCome (publisherAnswers 64 (begun .state) (now (replies .entry))))) ⌝ }
+    ensures events { λ r. ⌜ now (events .exit) ≡ unlessRefused (startedJudged (publisherFedJudged 64 (begun .state) (now (replies .entry)) (now (events .entry))) (now (answer .entry)) (startTold (begun .answer))) (map callCode (publisherAnswers 64 (begun .state) (now (replies .entry)))) (now (events .entry)) ⌝ }
+    ensures answer { λ r. ⌜ now (answer .exit) ≡ nextAnswered (following (startedJudged (publisherFedJudged 64 (begun .state) (now (replies .entry)) (now (events .entry))) (now (answer .entry)) (startTold (begun .answer))) (lastFrom toCome (publisherAnswers 64 (begun .state) (now (replies .entry))))) (now (answer .entry)) ⌝ }
 {
     let told = begun.answer;
     let state = begun.state;
+    if !answer::is_answer(answer) {
+        return answer::refuse_after(
+            runs::publish::judge(state, replies, events),
+            Refusal::BufferLength,
+            answer,
+        );
+    }
     match told {
-        StartAnswer::Refused(r) => answer::refuse(r, answer),
+        StartAnswer::Refused(r) => {
+            answer::refuse_after(runs::publish::judge(state, replies, events), r, answer)
+        }
         StartAnswer::Ready => run_told(state, replies, events, answer),
     }
 }
 
-fn run_judged(
-    judged: Judged,
-    mode: WriteMode,
-    image: &[u8],
-    new: &[u8],
-    page: u8,
-    replies: &[u8],
-    events: &mut [u8],
-    answer: &mut [u8],
-) -> u32
-    ensures code { λ r. ⌜ r ≡ codeIn (following (judgedTold judged) (publishTold 64 mode (now (image .entry)) (now (new .entry)) page (now (replies .entry)))) ⌝ }
-    ensures events { λ r. ⌜ now (events .exit) ≡ unlessRefused (judgedTold judged) (publishEvents 64 mode (now (image .entry)) (now (new .entry)) page (now (replies .entry)) (now (events .entry))) (now (events .entry)) ⌝ }
-    ensures answer { λ r. ⌜ now (answer .exit) ≡ nextAnswered (following (judgedTold judged) (publishTold 64 mode (now (image .entry)) (now (new .entry)) page (now (replies .entry)))) (now (answer .entry)) ⌝ }
-{
-    match judged {
-        Judged::Refused(r) => answer::refuse(r, answer),
-        Judged::Accepted => run_started(
-            publisher::start(mode, image, new, Page(page)),
-            replies,
-            events,
-            answer,
-        ),
-    }
-}
-
 // The update of a page in a mode by a publisher fed these replies: a byte for each call, its event or FFh, and what the last call told.
-// Refused: 10, 2, 1, 3, 4, 5, 20, 9, 8.
+// Refused: 1, 2, 10, 3, 4, 5, 20, 9, 8.
 fn run_in(
     mode: WriteMode,
     image: &[u8],
@@ -101,12 +90,11 @@ fn run_in(
     ensures events { λ r. ⌜ now (events .exit) ≡ publisherRunEvents 64 mode (now (image .entry)) (now (new .entry)) page (now (replies .entry)) (now (events .entry)) (now (answer .entry)) ⌝ }
     ensures answer { λ r. ⌜ now (answer .exit) ≡ nextAnswered (publisherRunTold 64 mode (now (image .entry)) (now (new .entry)) page (now (replies .entry)) (now (events .entry)) (now (answer .entry))) (now (answer .entry)) ⌝ }
 {
-    run_judged(
-        calls::judge_run(replies, events, answer),
-        mode,
-        image,
-        new,
-        page,
+    if !layout::is_image(image, Page(layout::DS2505)) {
+        return 1;
+    }
+    run_started(
+        publisher::start(mode, image, new, Page(page)),
         replies,
         events,
         answer,
@@ -172,7 +160,7 @@ fn keep_started(begun: Started, state: &mut [u8], answer: &mut [u8]) -> u32
     }
 }
 
-// The state before the first call of an update in a mode. Refused: 10, 1, 3, 4, 5, 20, 9, 8.
+// The state before the first call of an update in a mode. Refused: 1, 10, 3, 4, 5, 20, 9, 8.
 fn start_in(
     mode: WriteMode,
     image: &[u8],
@@ -185,6 +173,9 @@ fn start_in(
     ensures state { λ r. ⌜ now (state .exit) ≡ publisherStartState 64 mode (now (image .entry)) (now (new .entry)) page (now (state .entry)) (now (answer .entry)) ⌝ }
     ensures answer { λ r. ⌜ now (answer .exit) ≡ answered (publisherStarted 64 (now (image .entry)) (now (new .entry)) page (now (state .entry)) (now (answer .entry))) (now (answer .entry)) ⌝ }
 {
+    if !layout::is_image(image, Page(layout::DS2505)) {
+        return 1;
+    }
     if !answer::is_answer(answer) {
         return 10;
     }
@@ -243,40 +234,47 @@ fn call_state(before: Publisher, reply: bool, state: &mut [u8], answer: &mut [u8
     tell(told, answer)
 }
 
-fn call_unpacked(unpacked: Unpacked, reply: bool, state: &mut [u8], answer: &mut [u8]) -> u32
-    ensures code { λ r. ⌜ r ≡ codeIn (following (judgedTold (unpacked .judged)) (callAnswer 64 (unpacked .state) reply)) ⌝ }
-    ensures state { λ r. ⌜ now (state .exit) ≡ unlessRefused (judgedTold (unpacked .judged)) (publisherBuffer (callState 64 (unpacked .state) reply) (now (state .entry))) (now (state .entry)) ⌝ }
-    ensures answer { λ r. ⌜ now (answer .exit) ≡ nextAnswered (following (judgedTold (unpacked .judged)) (callAnswer 64 (unpacked .state) reply)) (now (answer .entry)) ⌝ }
+fn call_judged(
+    judged: Judged,
+    before: Publisher,
+    reply: bool,
+    state: &mut [u8],
+    answer: &mut [u8],
+) -> u32
+    ensures code { λ r. ⌜ r ≡ codeIn (following (judgedTold judged) (callAnswer 64 before reply)) ⌝ }
+    ensures state { λ r. ⌜ now (state .exit) ≡ unlessRefused (judgedTold judged) (publisherBuffer (callState 64 before reply) (now (state .entry))) (now (state .entry)) ⌝ }
+    ensures answer { λ r. ⌜ now (answer .exit) ≡ nextAnswered (following (judgedTold judged) (callAnswer 64 before reply)) (now (answer .entry)) ⌝ }
 {
-    let judged = unpacked.judged;
-    let before = unpacked.state;
     match judged {
         Judged::Refused(r) => answer::refuse(r, answer),
         Judged::Accepted => call_state(before, reply, state, answer),
     }
 }
 
-// A call on the state that bytes hold.
-fn step(state: &mut [u8], reply: bool, answer: &mut [u8]) -> u32
-    ensures code { λ r. ⌜ r ≡ codeIn (publisherStepTold 64 (now (state .entry)) reply) ⌝ }
-    ensures state { λ r. ⌜ now (state .exit) ≡ publisherStepState 64 (now (state .entry)) reply ⌝ }
-    ensures answer { λ r. ⌜ now (answer .exit) ≡ nextAnswered (publisherStepTold 64 (now (state .entry)) reply) (now (answer .entry)) ⌝ }
+fn call_unpacked(unpacked: Unpacked, reply: u8, state: &mut [u8], answer: &mut [u8]) -> u32
+    ensures code { λ r. ⌜ r ≡ codeIn (following (following (judgedTold (unpacked .judged)) (callJudged (inRange 64 (unpacked .state)) reply (now (answer .entry)))) (callAnswer 64 (unpacked .state) (eqb reply 1))) ⌝ }
+    ensures state { λ r. ⌜ now (state .exit) ≡ unlessRefused (following (judgedTold (unpacked .judged)) (callJudged (inRange 64 (unpacked .state)) reply (now (answer .entry)))) (publisherBuffer (callState 64 (unpacked .state) (eqb reply 1)) (now (state .entry))) (now (state .entry)) ⌝ }
+    ensures answer { λ r. ⌜ now (answer .exit) ≡ nextAnswered (following (following (judgedTold (unpacked .judged)) (callJudged (inRange 64 (unpacked .state)) reply (now (answer .entry)))) (callAnswer 64 (unpacked .state) (eqb reply 1))) (now (answer .entry)) ⌝ }
 {
-    call_unpacked(publisher_state::unpack(state), reply, state, answer)
-}
-
-fn call_judged(judged: Judged, reply: bool, state: &mut [u8], answer: &mut [u8]) -> u32
-    ensures code { λ r. ⌜ r ≡ codeIn (following (judgedTold judged) (publisherStepTold 64 (now (state .entry)) reply)) ⌝ }
-    ensures state { λ r. ⌜ now (state .exit) ≡ unlessRefused (judgedTold judged) (publisherStepState 64 (now (state .entry)) reply) (now (state .entry)) ⌝ }
-    ensures answer { λ r. ⌜ now (answer .exit) ≡ nextAnswered (following (judgedTold judged) (publisherStepTold 64 (now (state .entry)) reply)) (now (answer .entry)) ⌝ }
-{
+    let judged = unpacked.judged;
+    let before = unpacked.state;
     match judged {
         Judged::Refused(r) => answer::refuse(r, answer),
-        Judged::Accepted => step(state, reply, answer),
+        Judged::Accepted => call_judged(
+            calls::judge_call(
+                publisher::in_range(Page(layout::DS2505), before),
+                reply,
+                answer,
+            ),
+            before,
+            reply == 1,
+            state,
+            answer,
+        ),
     }
 }
 
-// One call with a reply, 0 or 1, in the mode of the state: the next event, or the end with L and T. Refused: 10, 2, 13, 6 (in the
+// One call with a reply, 0 or 1, in the mode of the state: the next event, or the end with L and T. Refused: 2, 10, 13, 6 (in the
 // ordinary mode), 7.
 #[no_mangle]
 pub extern "C" fn ds2505_publisher_call(state: &mut [u8], reply: u8, answer: &mut [u8]) -> u32
@@ -284,5 +282,5 @@ pub extern "C" fn ds2505_publisher_call(state: &mut [u8], reply: u8, answer: &mu
     ensures state { λ r. ⌜ now (state .exit) ≡ publisherCallState 64 (now (state .entry)) reply (now (answer .entry)) ⌝ }
     ensures answer { λ r. ⌜ now (answer .exit) ≡ nextAnswered (publisherCallTold 64 (now (state .entry)) reply (now (answer .entry))) (now (answer .entry)) ⌝ }
 {
-    call_judged(calls::judge_call(reply, answer), reply == 1, state, answer)
+    call_unpacked(publisher_state::unpack(state), reply, state, answer)
 }

@@ -13,12 +13,15 @@ use sheet::list::Listed;
 use terms::address::Page;
 use terms::refusal::Judged;
 
-// The sheet of a number and an image, into a buffer of 2,392 bytes. Refused: 10, 1, 12.
+// The sheet of a number and an image, into a buffer of 2,392 bytes. Refused: 1, 10, 12.
 #[no_mangle]
 pub extern "C" fn ds2505_sheet_write(number: &[u8], image: &[u8], sheet: &mut [u8]) -> u32
     ensures code { λ r. ⌜ r ≡ codeIn (sheetWritten 64 (now (number .entry)) (now (image .entry)) (now (sheet .entry))) ⌝ }
     ensures sheet { λ r. ⌜ now (sheet .exit) ≡ sheetBuffer 64 (now (number .entry)) (now (image .entry)) (now (sheet .entry)) ⌝ }
 {
+    if !layout::is_image(image, Page(layout::DS2505)) {
+        return 1;
+    }
     if !answer::is_number(number) {
         return 10;
     }
@@ -40,18 +43,18 @@ fn hand_on(judged: Judged, sheet: &[u8], number: &mut [u8], image: &mut [u8]) ->
     }
 }
 
-// The number and the image of a sheet, into buffers of 8 and 2,368 bytes. Refused: 10, 1, 12.
+// The number and the image of a sheet, into buffers of 8 and 2,368 bytes. Refused: 1, 10, 12.
 #[no_mangle]
 pub extern "C" fn ds2505_sheet_read(sheet: &[u8], number: &mut [u8], image: &mut [u8]) -> u32
     ensures code { λ r. ⌜ r ≡ codeIn (sheetRead 64 (now (sheet .entry)) (now (number .entry)) (now (image .entry))) ⌝ }
     ensures number { λ r. ⌜ now (number .exit) ≡ readNumber 64 (now (sheet .entry)) (now (number .entry)) (now (image .entry)) ⌝ }
     ensures image { λ r. ⌜ now (image .exit) ≡ readImage 64 (now (sheet .entry)) (now (number .entry)) (now (image .entry)) ⌝ }
 {
-    if !answer::is_number(number) {
-        return 10;
-    }
     if !layout::is_image(image, Page(layout::DS2505)) {
         return 1;
+    }
+    if !answer::is_number(number) {
+        return 10;
     }
     hand_on(sheet::stored::judge(sheet), sheet, number, image)
 }

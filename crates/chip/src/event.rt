@@ -165,7 +165,7 @@ pub struct Ran {
 }
 
 // All bytes are those of events.
-fn are_events(codes: &[u8]) -> bool
+pub fn are_events(codes: &[u8]) -> bool
     ensures { λ r. ⌜ r ≡ areEvents (now (codes .entry)) ⌝ }
 {
     for i in 0..codes.len() {

@@ -257,6 +257,15 @@ fn phase_in_range(phase: Phase, bytes: [u8; 8]) -> bool
     }
 }
 
+// Whether a state is within its ranges; one that is not draws 2.
+pub fn in_range(s: NumberRead) -> bool
+    ensures { λ r. ⌜ r ≡ inRange s ⌝ }
+{
+    let phase = s.phase;
+    let bytes = s.bytes;
+    phase_in_range(phase, bytes)
+}
+
 // ---- the calls
 
 // The start gives a state and no event.
@@ -275,9 +284,7 @@ pub fn call(state: NumberRead, reply: bool) -> Stepped
     ensures answer { λ r. ⌜ numberTold r ≡ numberAnswer state reply ⌝ }
     ensures state { λ r. ⌜ r .state ≡ numberState state reply ⌝ }
 {
-    let phase = state.phase;
-    let bytes = state.bytes;
-    if !phase_in_range(phase, bytes) {
+    if !in_range(state) {
         return Stepped {
             answer: Answer::Refused(Refusal::StateRange),
             state,

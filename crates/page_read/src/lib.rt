@@ -400,7 +400,8 @@ fn phase_in_range(last: Page, phase: Phase) -> bool
     }
 }
 
-fn in_range(last: Page, s: PageRead) -> bool
+// Whether a state is within its ranges; one that is not draws 2.
+pub fn in_range(last: Page, s: PageRead) -> bool
     ensures { λ r. ⌜ r ≡ inRange (pageCount last) s ⌝ }
 {
     let phase = s.phase;

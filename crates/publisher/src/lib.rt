@@ -367,7 +367,8 @@ fn stage_in_range(mode: WriteMode, last: Page, stage: Stage) -> bool
     }
 }
 
-fn in_range(last: Page, s: Publisher) -> bool
+// Whether a state is within its ranges; one that is not draws 2.
+pub fn in_range(last: Page, s: Publisher) -> bool
     ensures { λ r. ⌜ r ≡ inRange (pageCount last) s ⌝ }
 {
     let mode = s.mode;

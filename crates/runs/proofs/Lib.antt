@@ -1,4 +1,4 @@
 pub mod Codes
+pub mod Judged
 pub mod Replies
 pub mod Runs
-pub mod Laws

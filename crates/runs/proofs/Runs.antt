@@ -75,29 +75,29 @@ module _ {S : Type 0} (call : S → Bool → S) (told : S → Bool → Told Next
             ∙ m .written;
       }
 
-  -- no reply is left
-  pub arrived : (s₀ : S) (codes events₀ : List ℕ) (i : ℕ) (s : S) (t : Told Next) (events : List ℕ)
-      → length codes ≤ i → Midway s₀ codes events₀ i s t events
-      → (s ≡ stateAfter s₀ codes)
-      × ((t ≡ lastFrom toCome (toldBy s₀ codes)) × (events ≡ filled events₀ 0 (map callCode (toldBy s₀ codes))))
-  unfolding lastFrom
-  arrived s₀ codes events₀ i s t events h m =
-      let none : drop i codes ≡ [] = drop-of-length-le codes h in (
-        sym (ap (stateAfter s) none) ∙ m .left,
-        (
-          sym (ap (λ (l : List ℕ). lastFrom t (toldBy s l)) none) ∙ m .last,
-          sym (ap (λ (l : List ℕ). filled events i (map callCode (toldBy s l))) none) ∙ m .written,
-        ),
-      )
-
   -- ---- a buffer with a byte for each reply
 
   as-many : (s : S) (codes : List ℕ) → length (toldBy s codes) ≡ length codes
   as-many s [] = refl
   as-many s (c ∷ codes) = ap suc (as-many (call s (replyAt c)) codes)
 
-  pub whole : (s : S) (codes events : List ℕ) → length events ≡ length codes
+  whole : (s : S) (codes events : List ℕ) → length events ≡ length codes
       → filled events 0 (map callCode (toldBy s codes)) ≡ map callCode (toldBy s codes)
   whole s codes events l =
       let e : length (map callCode (toldBy s codes)) ≡ length events = length-map (toldBy s codes) callCode ∙ as-many s codes ∙ sym l in
       filled-is (map callCode (toldBy s codes)) events 0 (omega arith)
+
+  -- ---- no reply is left
+
+  pub arrived : (s₀ : S) (codes events₀ : List ℕ) (i : ℕ) (s : S) (t : Told Next) (events : List ℕ)
+      → length codes ≤ i → length events₀ ≡ length codes → Midway s₀ codes events₀ i s t events
+      → (s ≡ stateAfter s₀ codes) × ((t ≡ lastFrom toCome (toldBy s₀ codes)) × (events ≡ map callCode (toldBy s₀ codes)))
+  unfolding lastFrom
+  arrived s₀ codes events₀ i s t events h l m =
+      let none : drop i codes ≡ [] = drop-of-length-le codes h in (
+        sym (ap (stateAfter s) none) ∙ m .left,
+        (
+          sym (ap (λ (l : List ℕ). lastFrom t (toldBy s l)) none) ∙ m .last,
+          sym (ap (λ (l : List ℕ). filled events i (map callCode (toldBy s l))) none) ∙ m .written ∙ whole s₀ codes events₀ l,
+        ),
+      )

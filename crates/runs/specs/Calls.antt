@@ -3,6 +3,7 @@ use Prim.Native.Nat.{ℕ}
 use mathlib.Core.Bool.{Bool, true, _&&_}
 use mathlib.Core.List.{List, [], _∷_, map}
 use lib.Dec.{eqb, ltb}
+use lib.ListN.{length}
 use Rattle.terms.specs.Told.{Told, refused, accepted}
 use Rattle.bus.specs.declared.Event.the-variants.{Reset}
 use Rattle.bus.specs.Codes.{codeOf}
@@ -12,6 +13,10 @@ use Rattle.master.specs.Next.{Next, send, tells}
 unfoldable pub areReplies : List ℕ → Bool
 areReplies [] = true
 areReplies (c ∷ cs) = ltb c 2 && areReplies cs
+
+-- a buffer has a byte for each reply
+abbrev pub asMany : List ℕ → List ℕ → Bool
+asMany codes events = eqb (length events) (length codes)
 
 abbrev pub replyAt : ℕ → Bool
 replyAt c = eqb c 1

@@ -2,4 +2,3 @@ pub mod Calls
 pub mod Number
 pub mod Page
 pub mod Publisher
-pub mod Laws

@@ -1,14 +1,13 @@
 -- The number read fed a list of replies.
 use Prim.Native.Nat.{ℕ}
-use mathlib.Core.Bool.{Bool}
+use mathlib.Core.Bool.{true, _&&_}
 use mathlib.Core.List.{List, map}
-use Rattle.terms.specs.Filled.{filled}
-use Rattle.terms.specs.Told.{Told}
+use Rattle.terms.specs.Told.{Told, Done, unlessRefused, following, inOrder}
 use Rattle.master.specs.Next.{Next}
 use Rattle.master.specs.Joint as joint
 use Rattle.number_read.specs.declared.NumberRead.{NumberRead}
-use Rattle.number_read.specs.NumberRead.{numberAnswer, numberState}
-use Rattle.runs.specs.Calls.{repliesAt, callCode, lastFrom, toCome}
+use Rattle.number_read.specs.NumberRead.{inRange, numberAnswer, numberState}
+use Rattle.runs.specs.Calls.{areReplies, asMany, repliesAt, callCode, lastFrom, toCome}
 
 abbrev pub numberCalls : NumberRead → List ℕ → NumberRead
 numberCalls s codes = joint.calls numberState numberAnswer s (repliesAt codes)
@@ -16,9 +15,17 @@ numberCalls s codes = joint.calls numberState numberAnswer s (repliesAt codes)
 abbrev pub numberAnswers : NumberRead → List ℕ → List (Told Next)
 numberAnswers s codes = joint.answers numberState numberAnswer s (repliesAt codes)
 
--- a buffer with a byte for each call's answer, from its start on, as far as it goes
-abbrev pub numberEvents : NumberRead → List ℕ → List ℕ → List ℕ
-numberEvents s codes events = filled events 0 (map callCode (numberAnswers s codes))
+-- 2 for a state outside its ranges and for a byte that is no reply, 10 for the events' buffer
+unfoldable pub numberFedJudged : NumberRead → List ℕ → List ℕ → Told Done
+numberFedJudged s codes events = inOrder true (inRange s && areReplies codes) (asMany codes events)
 
-abbrev pub numberEnd : NumberRead → List ℕ → Told Next
-numberEnd s codes = lastFrom toCome (numberAnswers s codes)
+-- what the last call told
+unfoldable pub numberFedTold : NumberRead → List ℕ → List ℕ → Told Next
+numberFedTold s codes events = following (numberFedJudged s codes events) (lastFrom toCome (numberAnswers s codes))
+
+unfoldable pub numberFedState : NumberRead → List ℕ → List ℕ → NumberRead
+numberFedState s codes events = unlessRefused (numberFedJudged s codes events) (numberCalls s codes) s
+
+-- a byte for each call's answer
+unfoldable pub numberFedEvents : NumberRead → List ℕ → List ℕ → List ℕ
+numberFedEvents s codes events = unlessRefused (numberFedJudged s codes events) (map callCode (numberAnswers s codes)) events

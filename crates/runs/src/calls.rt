@@ -1,7 +1,10 @@
 // What the runs of all masters share.
 ghost use mathlib.Core.Path.{_≡_};
-ghost use lib.ListN.{set};
+ghost use mathlib.Core.Bool.{true, _&&_};
+ghost use Rattle.terms.specs.Told.{judgedTold, inOrder};
 ghost use Rattle.runs.specs.Calls.{areReplies};
+use terms::refusal;
+use terms::refusal::Judged;
 
 // All bytes are replies, 0 or 1.
 pub fn are_replies(codes: &[u8]) -> bool
@@ -15,11 +18,12 @@ pub fn are_replies(codes: &[u8]) -> bool
     true
 }
 
-// A byte at a place, if there is such a place.
-pub fn put(events: &mut [u8], i: usize, code: u8)
-    ensures { λ r. ⌜ now (events .exit) ≡ set (now (events .entry)) i code ⌝ }
+// The state and the replies, then the buffers. Refused: 2, 10.
+pub fn judge(in_range: bool, replies: &[u8], lengths: bool) -> Judged
+    ensures { λ r. ⌜ judgedTold r ≡ inOrder true (in_range && areReplies (now (replies .entry))) lengths ⌝ }
 {
-    if i < events.len() {
-        events[i] = code;
+    if !in_range {
+        return refusal::in_order(true, false, lengths);
     }
+    refusal::in_order(true, are_replies(replies), lengths)
 }

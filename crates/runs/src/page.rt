@@ -1,12 +1,21 @@
 // The page read fed a list of replies.
 ghost use mathlib.Core.Path.{_≡_};
+ghost use mathlib.Core.Bool.{_&&_};
+ghost use mathlib.Core.List.{map};
+ghost use lib.Dec.{eqb};
+ghost use lib.ListN.{length};
+ghost use Rattle.terms.specs.Told.{judgedTold};
 ghost use Rattle.page_read.specs.PageRead.{readTold};
-ghost use Rattle.runs.specs.Calls.{callCode};
-ghost use Rattle.runs.specs.Page.{reading, pageCalls, pageEvents, pageEnd};
+ghost use Rattle.runs.specs.Calls.{asMany, callCode, lastFrom, toCome};
+ghost use Rattle.runs.specs.Page.{reading, pageCalls, pageAnswers, pageFedJudged, pageFedTold, pageFed, pageFedEvents};
+use crate::calls;
 use bus::Event;
+use memory::layout;
 use page_read::Answer;
 use page_read::PageRead;
 use page_read::Stepped;
+use terms::address::Page;
+use terms::refusal::Judged;
 
 // The byte of an answer.
 fn code(answer: Answer) -> u8
@@ -19,12 +28,33 @@ fn code(answer: Answer) -> u8
     }
 }
 
-// The state and the caller's buffer after the calls, and the last answer; with no call, the reset to come.
-pub fn run(start: PageRead, replies: &[u8], events: &mut [u8], buffer: &mut [u8]) -> Stepped
-    ensures state { λ r. ⌜ r .state ≡ pageCalls 64 (reading start (now (buffer .entry))) (now (replies .entry)) .state ⌝ }
-    ensures buffer { λ r. ⌜ now (buffer .exit) ≡ pageCalls 64 (reading start (now (buffer .entry))) (now (replies .entry)) .buffer ⌝ }
-    ensures answer { λ r. ⌜ readTold (r .answer) ≡ pageEnd 64 (reading start (now (buffer .entry))) (now (replies .entry)) ⌝ }
-    ensures events { λ r. ⌜ now (events .exit) ≡ pageEvents 64 (reading start (now (buffer .entry))) (now (replies .entry)) (now (events .entry)) ⌝ }
+// The events' buffer has a byte for each reply, and the page's buffer 32.
+fn are_right(replies: &[u8], events: &[u8], buffer: &[u8]) -> bool
+    ensures { λ r. ⌜ r ≡ (asMany (now (replies .entry)) (now (events .entry)) && eqb (length (now (buffer .entry))) 32) ⌝ }
+{
+    if events.len() != replies.len() {
+        return false;
+    }
+    buffer.len() == 32
+}
+
+// Whether the read can be fed these replies. Refused: 2 for a state outside its ranges and for a byte that is no reply, 10 for an
+// events' buffer that has not a byte for each reply and for a page's buffer that is not 32 bytes.
+pub fn judge(start: PageRead, replies: &[u8], events: &[u8], buffer: &[u8]) -> Judged
+    ensures { λ r. ⌜ judgedTold r ≡ pageFedJudged 64 (reading start (now (buffer .entry))) (now (replies .entry)) (now (events .entry)) ⌝ }
+{
+    calls::judge(
+        page_read::in_range(Page(layout::DS2505), start),
+        replies,
+        are_right(replies, events, buffer),
+    )
+}
+
+fn feed(start: PageRead, replies: &[u8], events: &mut [u8], buffer: &mut [u8]) -> Stepped
+    requires { ⌜ length (now events) ≡ length (now replies) ⌝ }
+    ensures state { λ r. ⌜ reading (r .state) (now (buffer .exit)) ≡ pageCalls 64 (reading start (now (buffer .entry))) (now (replies .entry)) ⌝ }
+    ensures answer { λ r. ⌜ readTold (r .answer) ≡ lastFrom toCome (pageAnswers 64 (reading start (now (buffer .entry))) (now (replies .entry))) ⌝ }
+    ensures events { λ r. ⌜ now (events .exit) ≡ map callCode (pageAnswers 64 (reading start (now (buffer .entry))) (now (replies .entry))) ⌝ }
 {
     let mut state = start;
     let mut answer = Answer::Send(Event::Reset);
@@ -33,8 +63,24 @@ pub fn run(start: PageRead, replies: &[u8], events: &mut [u8], buffer: &mut [u8]
         let stepped = page_read::call(state, replies[i] == 1, buffer);
         answer = stepped.answer;
         state = stepped.state;
-        crate::calls::put(events, i, code(answer));
+        events[i] = code(answer);
         i += 1;
     }
     Stepped { answer, state }
+}
+
+// The state and the caller's buffer after the calls, and the last answer; with no call, the reset to come. Refused: 2, 10, with the
+// same state.
+pub fn run(start: PageRead, replies: &[u8], events: &mut [u8], buffer: &mut [u8]) -> Stepped
+    ensures state { λ r. ⌜ reading (r .state) (now (buffer .exit)) ≡ pageFed 64 (reading start (now (buffer .entry))) (now (replies .entry)) (now (events .entry)) ⌝ }
+    ensures answer { λ r. ⌜ readTold (r .answer) ≡ pageFedTold 64 (reading start (now (buffer .entry))) (now (replies .entry)) (now (events .entry)) ⌝ }
+    ensures events { λ r. ⌜ now (events .exit) ≡ pageFedEvents 64 (reading start (now (buffer .entry))) (now (replies .entry)) (now (events .entry)) ⌝ }
+{
+    match judge(start, replies, events, buffer) {
+        Judged::Refused(refusal) => Stepped {
+            answer: Answer::Refused(refusal),
+            state: start,
+        },
+        Judged::Accepted => feed(start, replies, events, buffer),
+    }
 }

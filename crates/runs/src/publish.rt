@@ -1,12 +1,19 @@
 // The publisher's later calls fed a list of replies.
 ghost use mathlib.Core.Path.{_≡_};
+ghost use mathlib.Core.List.{map};
+ghost use lib.ListN.{length};
+ghost use Rattle.terms.specs.Told.{judgedTold};
 ghost use Rattle.publisher.specs.Call.{turnTold};
-ghost use Rattle.runs.specs.Calls.{callCode};
-ghost use Rattle.runs.specs.Publisher.{publisherCalls, publisherEvents, publisherEnd};
+ghost use Rattle.runs.specs.Calls.{callCode, lastFrom, toCome};
+ghost use Rattle.runs.specs.Publisher.{publisherCalls, publisherAnswers, publisherFedJudged, publisherFedTold, publisherFedState, publisherFedEvents};
+use crate::calls;
 use bus::Event;
+use memory::layout;
 use publisher::Answer;
 use publisher::Publisher;
 use publisher::Stepped;
+use terms::address::Page;
+use terms::refusal::Judged;
 
 // The byte of an answer.
 fn code(answer: Answer) -> u8
@@ -19,11 +26,23 @@ fn code(answer: Answer) -> u8
     }
 }
 
-// The state after the calls, and the last answer; with no call, the reset to come.
-pub fn run(start: Publisher, replies: &[u8], events: &mut [u8]) -> Stepped
+// Whether the publisher can be fed these replies. Refused: 2 for a state outside its ranges and for a byte that is no reply, 10 for an
+// events' buffer that has not a byte for each reply.
+pub fn judge(start: Publisher, replies: &[u8], events: &[u8]) -> Judged
+    ensures { λ r. ⌜ judgedTold r ≡ publisherFedJudged 64 start (now (replies .entry)) (now (events .entry)) ⌝ }
+{
+    calls::judge(
+        publisher::in_range(Page(layout::DS2505), start),
+        replies,
+        events.len() == replies.len(),
+    )
+}
+
+fn feed(start: Publisher, replies: &[u8], events: &mut [u8]) -> Stepped
+    requires { ⌜ length (now events) ≡ length (now replies) ⌝ }
     ensures state { λ r. ⌜ r .state ≡ publisherCalls 64 start (now (replies .entry)) ⌝ }
-    ensures answer { λ r. ⌜ turnTold (r .answer) ≡ publisherEnd 64 start (now (replies .entry)) ⌝ }
-    ensures events { λ r. ⌜ now (events .exit) ≡ publisherEvents 64 start (now (replies .entry)) (now (events .entry)) ⌝ }
+    ensures answer { λ r. ⌜ turnTold (r .answer) ≡ lastFrom toCome (publisherAnswers 64 start (now (replies .entry))) ⌝ }
+    ensures events { λ r. ⌜ now (events .exit) ≡ map callCode (publisherAnswers 64 start (now (replies .entry))) ⌝ }
 {
     let mut state = start;
     let mut answer = Answer::Send(Event::Reset);
@@ -32,8 +51,23 @@ pub fn run(start: Publisher, replies: &[u8], events: &mut [u8]) -> Stepped
         let stepped = publisher::call(state, replies[i] == 1);
         answer = stepped.answer;
         state = stepped.state;
-        crate::calls::put(events, i, code(answer));
+        events[i] = code(answer);
         i += 1;
     }
     Stepped { answer, state }
+}
+
+// The state after the calls, and the last answer; with no call, the reset to come. Refused: 2, 10, with the same state.
+pub fn run(start: Publisher, replies: &[u8], events: &mut [u8]) -> Stepped
+    ensures state { λ r. ⌜ r .state ≡ publisherFedState 64 start (now (replies .entry)) (now (events .entry)) ⌝ }
+    ensures answer { λ r. ⌜ turnTold (r .answer) ≡ publisherFedTold 64 start (now (replies .entry)) (now (events .entry)) ⌝ }
+    ensures events { λ r. ⌜ now (events .exit) ≡ publisherFedEvents 64 start (now (replies .entry)) (now (events .entry)) ⌝ }
+{
+    match judge(start, replies, events) {
+        Judged::Refused(refusal) => Stepped {
+            answer: Answer::Refused(refusal),
+            state: start,
+        },
+        Judged::Accepted => feed(start, replies, events),
+    }
 }

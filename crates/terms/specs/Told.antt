@@ -29,7 +29,17 @@ abbrev pub judgedTold : Judged → Told Done
 judgedTold (Refused r) = refusing r
 judgedTold Accepted = accepted done
 
--- a buffer: the new bytes where the answer is not refused, and else the old ones
-abbrev pub unlessRefused : {A : Type 0} → Told A → List ℕ → List ℕ → List ℕ
+-- a buffer or a state: the new one where the answer is not refused, and else the old one
+abbrev pub unlessRefused : {A B : Type 0} → Told A → B → B → B
 unlessRefused (accepted a) new old = new
 unlessRefused (refused k vs) new old = old
+
+-- what is told next, where the answer is not refused
+abbrev pub following : {A B : Type 0} → Told A → Told B → Told B
+following (accepted a) rest = rest
+following (refused k vs) rest = refused k vs
+
+-- The order of every entry that judges these: 1 for an image of another length, 2 for a state or a byte outside its range, 10 for any
+-- other buffer of a wrong length. All other refusals come after them.
+abbrev pub inOrder : Bool → Bool → Bool → Told Done
+inOrder image ranges lengths = judge image 1 (judge ranges 2 (judge lengths 10 (accepted done)))

@@ -1,6 +1,7 @@
 use crate::address::Page;
 ghost use mathlib.Core.Path.{_≡_};
 ghost use Rattle.terms.specs.Refusal.{numberOf, valuesOf, givenValues};
+ghost use Rattle.terms.specs.Told.{judgedTold, inOrder};
 
 // The refusals of documents 01 and 02, in the order of their numbers, each with the values that it gives back. A state is given back beside it.
 pub enum Refusal {
@@ -89,4 +90,20 @@ pub fn given_back(refusal: Refusal) -> Given
         Refusal::NoValue => Given::Nothing,
         Refusal::DataProtected(l) => Given::One(l.0),
     }
+}
+
+// The order of every entry that judges these: the image's length, ranges, the lengths of other buffers. Refused: 1, 2, 10.
+pub fn in_order(image: bool, ranges: bool, lengths: bool) -> Judged
+    ensures { λ r. ⌜ judgedTold r ≡ inOrder image ranges lengths ⌝ }
+{
+    if !image {
+        return Judged::Refused(Refusal::ImageLength);
+    }
+    if !ranges {
+        return Judged::Refused(Refusal::StateRange);
+    }
+    if !lengths {
+        return Judged::Refused(Refusal::BufferLength);
+    }
+    Judged::Accepted
 }

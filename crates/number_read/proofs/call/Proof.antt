@@ -7,11 +7,11 @@ use Rattle.number_read.proofs.call.Tie as tie
 
 returns : tie.Need-returns
 unfolding numberAnswer numberState
-returns c = (simp (sym (c .before .phase-in-range .ensures) ∙ not-true (c .before .phase-in-range .result) (c .if1 .taken)), simp (sym (c .before .phase-in-range .ensures) ∙ not-true (c .before .phase-in-range .result) (c .if1 .taken)))
+returns c = (simp (sym (c .before .in-range .ensures) ∙ not-true (c .before .in-range .result) (c .if1 .taken)), simp (sym (c .before .in-range .ensures) ∙ not-true (c .before .in-range .result) (c .if1 .taken)))
 
 returns-2 : tie.Need-returns-2
 unfolding numberAnswer numberState
-returns-2 c = (simp (sym (c .before .before .before .phase-in-range .ensures) ∙ not-false (c .before .before .before .phase-in-range .result) (c .before .before .if1 .left), c .answer-for .ensures, c .before .take .ensures), simp (sym (c .before .before .before .phase-in-range .ensures) ∙ not-false (c .before .before .before .phase-in-range .result) (c .before .before .if1 .left), c .before .take .ensures))
+returns-2 c = (simp (sym (c .before .before .before .in-range .ensures) ∙ not-false (c .before .before .before .in-range .result) (c .before .before .if1 .left), c .answer-for .ensures, c .before .take .ensures), simp (sym (c .before .before .before .in-range .ensures) ∙ not-false (c .before .before .before .in-range .result) (c .before .before .if1 .left), c .before .take .ensures))
 
 pub call-spec : {M : Type 1} → statement M
 call-spec =

@@ -1,5 +1,11 @@
-use mathlib.Core.Path.{_∙_, sym}
+use mathlib.Core.Path.{sym, ap, _∙_}
 use borrow.Author.Tests.{not-false, not-true}
+use Rattle.terms.specs.Told.{Told, Done}
+use Rattle.chip.specs.declared.event.State.{State}
+use Rattle.chip.specs.Event.{powerUp}
+use Rattle.chip.specs.Run.{runAnswer, ranChip, ranReplies}
+use Rattle.capi.specs.Answers.{codeIn}
+use Rattle.capi.proofs.Judged.{whole-judged}
 use Rattle.capi.specs.Chip.{wholeAnswer, wholeImage, wholeReplies}
 use borrow.Author.Needs.{needs}
 use Rattle.capi.proofs.chip_entries.ds2505_chip_run.Statement.{statement}
@@ -7,17 +13,36 @@ use Rattle.capi.proofs.chip_entries.ds2505_chip_run.Tie as tie
 
 returns : tie.Need-returns
 unfolding wholeAnswer wholeImage wholeReplies
-returns c = (simp (sym (c .before .is-number .ensures) ∙ not-true (c .before .is-number .result) (c .if1 .taken)), (simp (sym (c .before .is-number .ensures) ∙ not-true (c .before .is-number .result) (c .if1 .taken)), simp (sym (c .before .is-number .ensures) ∙ not-true (c .before .is-number .result) (c .if1 .taken))))
+returns c = (simp (sym (c .before .before .before .before .before .before .is-number .ensures) ∙ not-true (c .before .before .before .before .before .before .is-number .result) (c .before .before .before .before .before .if1 .taken)) (c .code .ensures ∙ simp (c .before .in-order .ensures, c .before .before .are-events .ensures, c .before .before .before .is-image .ensures)), (simp (sym (c .before .before .before .before .before .before .is-number .ensures) ∙ not-true (c .before .before .before .before .before .before .is-number .result) (c .before .before .before .before .before .if1 .taken), c .before .before .before .before .before .before .is-number .ensures), simp (sym (c .before .before .before .before .before .before .is-number .ensures) ∙ not-true (c .before .before .before .before .before .before .is-number .result) (c .before .before .before .before .before .if1 .taken), c .before .before .before .before .before .before .is-number .ensures)))
 
 returns-2 : tie.Need-returns-2
-unfolding wholeAnswer wholeImage wholeReplies
-returns-2 c = (simp (sym (c .before .before .before .before .before .before .before .before .before .before .before .is-number .ensures) ∙ not-false (c .before .before .before .before .before .before .before .before .before .before .before .is-number .result) (c .before .before .before .before .before .before .before .before .before .before .if1 .left), c .code .ensures, c .before .before .before .before .before .run .ensures .0, c .before .before .before .before .before .run .ensures .1 .0, c .before .before .before .before .before .run .ensures .1 .1 .0, c .before .before .before .before .before .run .ensures .1 .1 .1, c .before .before .before .before .before .before .before .before .power-up .ensures, c .before .before .before .before .before .before .before .before .before .eight-of .ensures, c .before .before .before .before .before .before .before .before .before .before .before .is-number .ensures), (simp (sym (c .before .before .before .before .before .before .before .before .before .before .before .is-number .ensures) ∙ not-false (c .before .before .before .before .before .before .before .before .before .before .before .is-number .result) (c .before .before .before .before .before .before .before .before .before .before .if1 .left), c .before .before .before .before .before .run .ensures .1 .0, c .before .before .before .before .before .run .ensures .1 .1 .0, c .before .before .before .before .before .run .ensures .1 .1 .1, c .before .before .before .before .before .before .before .before .power-up .ensures, c .before .before .before .before .before .before .before .before .before .eight-of .ensures, c .before .before .before .before .before .before .before .before .before .before .before .is-number .ensures), simp (sym (c .before .before .before .before .before .before .before .before .before .before .before .is-number .ensures) ∙ not-false (c .before .before .before .before .before .before .before .before .before .before .before .is-number .result) (c .before .before .before .before .before .before .before .before .before .before .if1 .left), c .before .before .before .before .before .run .ensures .1 .0, c .before .before .before .before .before .run .ensures .1 .1 .0, c .before .before .before .before .before .run .ensures .1 .1 .1, c .before .before .before .before .before .before .before .before .power-up .ensures, c .before .before .before .before .before .before .before .before .before .eight-of .ensures, c .before .before .before .before .before .before .before .before .before .before .before .is-number .ensures)))
+unfolding wholeImage wholeReplies
+returns-2 c =
+    let a = c .before .before .before .before .before .before .before .before .before .before .before .before .before .before .before .before .args in
+    let run = c .before .before .before .before .before .run .ensures in
+    let eight = sym (c .before .before .before .before .before .before .before .before .before .before .before .is-number .ensures) ∙ not-false _ (c .before .before .before .before .before .before .before .before .before .before .if1 .left) in
+    let begins = c .before .before .before .before .before .before .before .before .power-up .ensures ∙ ap powerUp (c .before .before .before .before .before .before .before .before .before .eight-of .ensures) in (
+      c .code2 .ensures
+          ∙ ap (λ (t : Told Done). codeIn t)
+          (run .0
+          ∙ ap (λ (s : State). runAnswer 64 s (a .events .now) (a .image .now) (a .replies .now)) begins
+          ∙ whole-judged (a .number .now) (a .events .now) (a .image .now) (a .replies .now) eight),
+      (
+        simp eight (run .1 .1 .0 ∙ ap (λ (s : State). ranChip 64 s (a .events .now) (a .image .now) (a .replies .now) .image) begins),
+        simp eight (run .1 .1 .1 ∙ ap (λ (s : State). ranReplies 64 s (a .events .now) (a .image .now) (a .replies .now)) begins),
+      ),
+    )
 
 pub ds2505-chip-run-spec : {M : Type 1} → statement M
 ds2505-chip-run-spec =
     tie.close
     (tie.spec
     (λ c κs. search needs)
+    (λ c κs. search needs)
+    (λ c κs. search needs)
+    (λ c κs. search needs)
+    (λ c κs. search needs)
+    (λ c. search needs)
     returns
     (λ c κs. search needs)
     (λ c κs. search needs)

@@ -1,23 +1,24 @@
 use mathlib.Core.Path.{ap, _∙_}
-use Rattle.capi.specs.Answers.{codeIn, nextAnswered}
 use Rattle.terms.specs.Told.{Told}
 use Rattle.master.specs.Next.{Next}
 use Rattle.number_read.specs.declared.NumberRead.{NumberRead}
-use Rattle.runs.specs.Number.{numberEvents, numberEnd}
+use Rattle.runs.specs.Number.{numberFedTold, numberFedEvents}
+use Rattle.capi.specs.Answers.{codeIn, nextAnswered}
 use borrow.Author.Needs.{needs}
 use Rattle.capi.proofs.number_entries.run_told.Statement.{statement}
 use Rattle.capi.proofs.number_entries.run_told.Tie as tie
 
 returns : tie.Need-returns
 returns c =
-    let args = c .before .before .before .before .before .before .before .before .before .before .before .before .before .before .args in
+    let a = c .before .before .before .before .before .before .before .before .before .before .before .before .before .before .args in
     let tell = c .before .before .tell .ensures in
-    let ran = c .before .before .before .before .before .before .before .before .run .ensures in
-    let begins = c .before .before .before .before .before .before .before .before .before .before .start .ensures in (
-      tell .0 ∙ ap codeIn (ran .1 .0) ∙ ap (λ (s : NumberRead). codeIn (numberEnd s (args .replies .now))) begins,
+    let run = c .before .before .before .before .before .before .before .before .run .ensures in
+    let begins = c .before .before .before .before .before .before .before .before .before .before .start .ensures in
+    let told = run .1 .0 ∙ ap (λ (s : NumberRead). numberFedTold s (a .replies .now) (a .events .now)) begins in (
+      tell .0 ∙ ap (λ (t : Told Next). codeIn t) told,
       (
-        ran .1 .1 ∙ ap (λ (s : NumberRead). numberEvents s (args .replies .now) (args .events .now)) begins,
-        tell .1 ∙ ap (λ (t : Told Next). nextAnswered t (args .answer .now)) (ran .1 .0) ∙ ap (λ (s : NumberRead). nextAnswered (numberEnd s (args .replies .now)) (args .answer .now)) begins,
+        run .1 .1 ∙ ap (λ (s : NumberRead). numberFedEvents s (a .replies .now) (a .events .now)) begins,
+        tell .1 ∙ ap (λ (t : Told Next). nextAnswered t (a .answer .now)) told,
       ),
     )
 

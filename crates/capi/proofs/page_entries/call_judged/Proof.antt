@@ -1,16 +1,17 @@
-use Rattle.capi.specs.Page.{pageStepBuffer, pageStepState, pageStepTold}
+use Rattle.page_read.specs.PageRead.{readAnswer, readBuffer, readState}
+use Rattle.packing.specs.Page.{pageBuffer}
 use Rattle.capi.specs.Answers.{nextAnswered}
 use borrow.Author.Needs.{needs}
 use Rattle.capi.proofs.page_entries.call_judged.Statement.{statement}
 use Rattle.capi.proofs.page_entries.call_judged.Tie as tie
 
 returns : tie.Need-returns
-unfolding nextAnswered pageStepBuffer pageStepState pageStepTold
+unfolding nextAnswered pageBuffer readAnswer readBuffer readState
 returns c = (simp (c .before .before .before .before .before .judged .given .1, c .before .before .refuse .ensures .0), (simp (c .before .before .before .before .before .judged .given .1), (simp (c .before .before .before .before .before .judged .given .1), simp (c .before .before .before .before .before .judged .given .1, c .before .before .refuse .ensures .1))))
 
 returns-2 : tie.Need-returns-2
-unfolding nextAnswered pageStepBuffer pageStepState pageStepTold
-returns-2 c = (simp (c .before .before .before .before .before .before .before .before .before .before .enum-told .given .1, c .before .before .before .before .before .before .step .ensures .0, c .before .before .before .before .before .before .step .ensures .1 .0, c .before .before .before .before .before .before .step .ensures .1 .1 .0, c .before .before .before .before .before .before .step .ensures .1 .1 .1), (simp (c .before .before .before .before .before .before .before .before .before .before .enum-told .given .1, c .before .before .before .before .before .before .step .ensures .0, c .before .before .before .before .before .before .step .ensures .1 .0, c .before .before .before .before .before .before .step .ensures .1 .1 .0, c .before .before .before .before .before .before .step .ensures .1 .1 .1), (simp (c .before .before .before .before .before .before .before .before .before .before .enum-told .given .1, c .before .before .before .before .before .before .step .ensures .0, c .before .before .before .before .before .before .step .ensures .1 .0, c .before .before .before .before .before .before .step .ensures .1 .1 .0, c .before .before .before .before .before .before .step .ensures .1 .1 .1), simp (c .before .before .before .before .before .before .before .before .before .before .enum-told .given .1, c .before .before .before .before .before .before .step .ensures .0, c .before .before .before .before .before .before .step .ensures .1 .0, c .before .before .before .before .before .before .step .ensures .1 .1 .0, c .before .before .before .before .before .before .step .ensures .1 .1 .1))))
+unfolding nextAnswered pageBuffer readAnswer readBuffer readState
+returns-2 c = (simp (c .before .before .before .before .before .before .before .before .before .before .enum-told .given .1, c .before .before .before .before .before .before .call-state .ensures .0, c .before .before .before .before .before .before .call-state .ensures .1 .0, c .before .before .before .before .before .before .call-state .ensures .1 .1 .0, c .before .before .before .before .before .before .call-state .ensures .1 .1 .1), (simp (c .before .before .before .before .before .before .before .before .before .before .enum-told .given .1, c .before .before .before .before .before .before .call-state .ensures .0, c .before .before .before .before .before .before .call-state .ensures .1 .0, c .before .before .before .before .before .before .call-state .ensures .1 .1 .0, c .before .before .before .before .before .before .call-state .ensures .1 .1 .1), (simp (c .before .before .before .before .before .before .before .before .before .before .enum-told .given .1, c .before .before .before .before .before .before .call-state .ensures .0, c .before .before .before .before .before .before .call-state .ensures .1 .0, c .before .before .before .before .before .before .call-state .ensures .1 .1 .0, c .before .before .before .before .before .before .call-state .ensures .1 .1 .1), simp (c .before .before .before .before .before .before .before .before .before .before .enum-told .given .1, c .before .before .before .before .before .before .call-state .ensures .0, c .before .before .before .before .before .before .call-state .ensures .1 .0, c .before .before .before .before .before .before .call-state .ensures .1 .1 .0, c .before .before .before .before .before .before .call-state .ensures .1 .1 .1))))
 
 pub call-judged-spec : {M : Type 1} → statement M
 call-judged-spec =

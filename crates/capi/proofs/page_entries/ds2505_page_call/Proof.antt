@@ -1,13 +1,15 @@
 use mathlib.Core.Path.{_∙_}
-use Rattle.capi.specs.Page.{pageCallBuffer, pageCallState, pageCallTold}
-use Rattle.capi.specs.Answers.{nextAnswered}
+use Rattle.memory.specs.Page.{copied}
+use Rattle.capi.specs.Page.{pageCallBuffer, pageCallJudged, pageCallState, pageCallTold}
+use Rattle.capi.specs.Answers.{answered, nextAnswered}
+use Rattle.bus.specs.Codes.{codeOf}
 use borrow.Author.Needs.{needs}
 use Rattle.capi.proofs.page_entries.ds2505_page_call.Statement.{statement}
 use Rattle.capi.proofs.page_entries.ds2505_page_call.Tie as tie
 
 returns : tie.Need-returns
-unfolding nextAnswered pageCallBuffer pageCallState pageCallTold
-returns c = (c .before .before .before .before .before .before .call-judged .ensures .0 ∙ simp (c .before .before .before .before .before .before .call-judged .ensures .1 .0, c .before .before .before .before .before .before .call-judged .ensures .1 .1 .0, c .before .before .before .before .before .before .call-judged .ensures .1 .1 .1, c .before .before .before .before .before .before .before .before .before .before .judge-call .ensures), (c .before .before .before .before .before .before .call-judged .ensures .1 .0 ∙ simp (c .before .before .before .before .before .before .call-judged .ensures .0, c .before .before .before .before .before .before .call-judged .ensures .1 .1 .0, c .before .before .before .before .before .before .call-judged .ensures .1 .1 .1, c .before .before .before .before .before .before .before .before .before .before .judge-call .ensures), (c .before .before .before .before .before .before .call-judged .ensures .1 .1 .0 ∙ simp (c .before .before .before .before .before .before .call-judged .ensures .0, c .before .before .before .before .before .before .call-judged .ensures .1 .0, c .before .before .before .before .before .before .call-judged .ensures .1 .1 .1, c .before .before .before .before .before .before .before .before .before .before .judge-call .ensures), c .before .before .before .before .before .before .call-judged .ensures .1 .1 .1 ∙ simp (c .before .before .before .before .before .before .call-judged .ensures .0, c .before .before .before .before .before .before .call-judged .ensures .1 .0, c .before .before .before .before .before .before .call-judged .ensures .1 .1 .0, c .before .before .before .before .before .before .before .before .before .before .judge-call .ensures))))
+unfolding answered codeOf copied nextAnswered pageCallBuffer pageCallJudged pageCallState pageCallTold
+returns c = (c .before .before .before .before .before .before .call-unpacked .ensures .0 ∙ simp (c .before .before .before .before .before .before .call-unpacked .ensures .1 .0, c .before .before .before .before .before .before .call-unpacked .ensures .1 .1 .0, c .before .before .before .before .before .before .call-unpacked .ensures .1 .1 .1, c .before .before .before .before .before .before .before .before .before .before .unpack .ensures .0, c .before .before .before .before .before .before .before .before .before .before .unpack .ensures .1), (c .before .before .before .before .before .before .call-unpacked .ensures .1 .0 ∙ simp (c .before .before .before .before .before .before .call-unpacked .ensures .0, c .before .before .before .before .before .before .call-unpacked .ensures .1 .1 .0, c .before .before .before .before .before .before .call-unpacked .ensures .1 .1 .1, c .before .before .before .before .before .before .before .before .before .before .unpack .ensures .0, c .before .before .before .before .before .before .before .before .before .before .unpack .ensures .1), (c .before .before .before .before .before .before .call-unpacked .ensures .1 .1 .0 ∙ simp (c .before .before .before .before .before .before .call-unpacked .ensures .0, c .before .before .before .before .before .before .call-unpacked .ensures .1 .0, c .before .before .before .before .before .before .call-unpacked .ensures .1 .1 .1, c .before .before .before .before .before .before .before .before .before .before .unpack .ensures .0, c .before .before .before .before .before .before .before .before .before .before .unpack .ensures .1), c .before .before .before .before .before .before .call-unpacked .ensures .1 .1 .1 ∙ simp (c .before .before .before .before .before .before .call-unpacked .ensures .0, c .before .before .before .before .before .before .call-unpacked .ensures .1 .0, c .before .before .before .before .before .before .call-unpacked .ensures .1 .1 .0, c .before .before .before .before .before .before .before .before .before .before .unpack .ensures .0, c .before .before .before .before .before .before .before .before .before .before .unpack .ensures .1))))
 
 pub ds2505-page-call-spec : {M : Type 1} → statement M
 ds2505-page-call-spec =

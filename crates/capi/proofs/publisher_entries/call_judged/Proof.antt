@@ -1,16 +1,17 @@
-use Rattle.capi.specs.Publisher.{publisherStepState, publisherStepTold}
+use Rattle.publisher.specs.Call.{callAnswer, callState}
+use Rattle.packing.specs.Publisher.{publisherBuffer}
 use Rattle.capi.specs.Answers.{nextAnswered}
 use borrow.Author.Needs.{needs}
 use Rattle.capi.proofs.publisher_entries.call_judged.Statement.{statement}
 use Rattle.capi.proofs.publisher_entries.call_judged.Tie as tie
 
 returns : tie.Need-returns
-unfolding nextAnswered publisherStepState publisherStepTold
+unfolding callAnswer callState nextAnswered publisherBuffer
 returns c = (simp (c .before .before .before .before .before .judged .given .1, c .before .before .refuse .ensures .0), (simp (c .before .before .before .before .before .judged .given .1), simp (c .before .before .before .before .before .judged .given .1, c .before .before .refuse .ensures .1)))
 
 returns-2 : tie.Need-returns-2
-unfolding nextAnswered publisherStepState publisherStepTold
-returns-2 c = (simp (c .before .before .before .before .before .before .before .enum-told .given .1, c .before .before .before .before .step .ensures .0), (simp (c .before .before .before .before .before .before .before .enum-told .given .1, c .before .before .before .before .step .ensures .1 .0), simp (c .before .before .before .before .before .before .before .enum-told .given .1, c .before .before .before .before .step .ensures .1 .1)))
+unfolding callAnswer callState nextAnswered publisherBuffer
+returns-2 c = (simp (c .before .before .before .before .before .before .before .enum-told .given .1, c .before .before .before .before .call-state .ensures .0), (simp (c .before .before .before .before .before .before .before .enum-told .given .1, c .before .before .before .before .call-state .ensures .1 .0), simp (c .before .before .before .before .before .before .before .enum-told .given .1, c .before .before .before .before .call-state .ensures .1 .1)))
 
 pub call-judged-spec : {M : Type 1} → statement M
 call-judged-spec =

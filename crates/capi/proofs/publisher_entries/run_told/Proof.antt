@@ -1,22 +1,13 @@
-use mathlib.Core.Path.{ap, _∙_}
-use Rattle.capi.specs.Answers.{codeIn, nextAnswered}
-use Rattle.terms.specs.Told.{Told}
-use Rattle.master.specs.Next.{Next}
+use mathlib.Core.Path.{_∙_}
+use Rattle.runs.specs.Publisher.{publisherFedEvents, publisherFedTold}
+use Rattle.capi.specs.Answers.{nextAnswered}
 use borrow.Author.Needs.{needs}
 use Rattle.capi.proofs.publisher_entries.run_told.Statement.{statement}
 use Rattle.capi.proofs.publisher_entries.run_told.Tie as tie
 
 returns : tie.Need-returns
-returns c =
-    let args = c .before .before .before .before .before .before .before .before .before .before .before .args in
-    let tell = c .before .before .tell .ensures in
-    let ran = c .before .before .before .before .before .before .run .ensures in (
-      tell .0 ∙ ap codeIn (ran .1 .0),
-      (
-        ran .1 .1,
-        tell .1 ∙ ap (λ (t : Told Next). nextAnswered t (args .answer .now)) (ran .1 .0),
-      ),
-    )
+unfolding nextAnswered publisherFedEvents publisherFedTold
+returns c = (c .before .before .tell .ensures .0 ∙ simp (c .before .before .before .before .before .before .run .ensures .0, c .before .before .before .before .before .before .run .ensures .1 .0, c .before .before .before .before .before .before .run .ensures .1 .1), (simp (c .before .before .before .before .before .before .run .ensures .0, c .before .before .before .before .before .before .run .ensures .1 .0, c .before .before .before .before .before .before .run .ensures .1 .1), simp (c .before .before .tell .ensures .1, c .before .before .before .before .before .before .run .ensures .0, c .before .before .before .before .before .before .run .ensures .1 .0, c .before .before .before .before .before .before .run .ensures .1 .1)))
 
 pub run-told-spec : {M : Type 1} → statement M
 run-told-spec =

@@ -1,18 +1,21 @@
-use Rattle.capi.proofs.Sheets.{handed-on}
-use mathlib.Core.Path.{_∙_, sym}
+use mathlib.Core.Path.{sym, _∙_}
 use borrow.Author.Tests.{not-false, not-true}
 use Rattle.capi.specs.Sheet.{readImage, readNumber, sheetRead}
+use Rattle.capi.proofs.Sheets.{handed-on}
 use borrow.Author.Needs.{needs}
 use Rattle.capi.proofs.sheet_entries.ds2505_sheet_read.Statement.{statement}
 use Rattle.capi.proofs.sheet_entries.ds2505_sheet_read.Tie as tie
 
 returns : tie.Need-returns
 unfolding readImage readNumber sheetRead
-returns c = (simp (sym (c .before .is-number .ensures) ∙ not-true (c .before .is-number .result) (c .if1 .taken)), (simp (sym (c .before .is-number .ensures) ∙ not-true (c .before .is-number .result) (c .if1 .taken)), simp (sym (c .before .is-number .ensures) ∙ not-true (c .before .is-number .result) (c .if1 .taken))))
+returns c =
+    let short = sym (c .before .is-image .ensures) ∙ not-true _ (c .if1 .taken) in (simp short, (simp short, simp short))
 
 returns-2 : tie.Need-returns-2
 unfolding readImage readNumber sheetRead
-returns-2 c = (simp (sym (c .before .is-image .ensures) ∙ not-true (c .before .is-image .result) (c .if2 .taken), sym (c .before .before .before .before .is-number .ensures) ∙ not-false (c .before .before .before .before .is-number .result) (c .before .before .before .if1 .left)), (simp (sym (c .before .is-image .ensures) ∙ not-true (c .before .is-image .result) (c .if2 .taken), sym (c .before .before .before .before .is-number .ensures) ∙ not-false (c .before .before .before .before .is-number .result) (c .before .before .before .if1 .left)), simp (sym (c .before .is-image .ensures) ∙ not-true (c .before .is-image .result) (c .if2 .taken), sym (c .before .before .before .before .is-number .ensures) ∙ not-false (c .before .before .before .before .is-number .result) (c .before .before .before .if1 .left))))
+returns-2 c =
+    let sized = sym (c .before .before .before .before .is-image .ensures) ∙ not-false _ (c .before .before .before .if1 .left) in
+    let short = sym (c .before .is-number .ensures) ∙ not-true _ (c .if2 .taken) in (simp (sized, short), (simp (sized, short), simp (sized, short)))
 
 returns-3 : tie.Need-returns-3
 returns-3 c =
@@ -20,8 +23,8 @@ returns-3 c =
     let handed = c .before .before .before .before .hand-on .ensures in
     let law =
     handed-on 64 (args .sheet .now) (args .number .now) (args .image .now)
-    (sym (c .before .before .before .before .before .before .before .before .before .before .before .before .is-number .ensures) ∙ not-false _ (c .before .before .before .before .before .before .before .before .before .before .before .if1 .left))
-    (sym (c .before .before .before .before .before .before .before .before .before .is-image .ensures) ∙ not-false _ (c .before .before .before .before .before .before .before .before .if2 .left))
+    (sym (c .before .before .before .before .before .before .before .before .before .is-number .ensures) ∙ not-false _ (c .before .before .before .before .before .before .before .before .if2 .left))
+    (sym (c .before .before .before .before .before .before .before .before .before .before .before .before .is-image .ensures) ∙ not-false _ (c .before .before .before .before .before .before .before .before .before .before .before .if1 .left))
     _ (c .before .before .before .before .before .before .before .judge .ensures) in
     (handed .0 ∙ law .0, (handed .1 .0 ∙ law .1 .0, handed .1 .1 ∙ law .1 .1))
 

@@ -1,72 +1,46 @@
-use Prim.Native.Nat.{ℕ, _-_, _≤_}
-use mathlib.Core.Path.{_≡_, refl, ap, ap₂, _∙_}
-use native.Mathlib.Omega.{arith}
-use lib.ListN.{length, set}
+use mathlib.Core.Path.{sym, ap, _∙_}
+use mathlib.Core.Bool.{_&&_}
+use lib.Dec.{eqb}
+use lib.ListN.{length}
 use borrow.Author.Needs.{needs}
-use Rattle.page_read.specs.PageRead.{readTold}
-use Rattle.runs.specs.Page.{Reading, reading, readingAfter, readingTold}
-use Rattle.runs.proofs.Runs.{Midway, midway, arrived}
+use Rattle.terms.specs.Told.{judgedTold}
+use Rattle.page_read.specs.PageRead.{inRange}
+use Rattle.runs.specs.Calls.{areReplies}
+use Rattle.runs.specs.Page.{pageFedJudged, pageFedTold, pageFed, pageFedEvents}
+use Rattle.runs.proofs.Judged.{room-beside}
 use Rattle.runs.proofs.page.run.Statement.{statement}
 use Rattle.runs.proofs.page.run.Tie as tie
 
-abbrev Inv-loop : tie.InvT-loop
-Inv-loop replies events₀ buffer₀ state₀ answer₀ i₀ events buffer state answer i =
-    (i ≤ length replies)
-    × (length events ≡ length events₀)
-    × (length buffer ≡ length buffer₀)
-    × Midway (readingAfter 64) (readingTold 64) (reading state₀ buffer₀) replies events₀ i (reading state buffer) (readTold answer) events
+feed-requires : tie.Need-feed-requires
+unfolding pageFedJudged
+feed-requires c κs =
+    let a = c .before .before .before .before .before .before .before .before .before .before .args in
+    room-beside (inRange 64 (a .start) && areReplies (a .replies .now)) (a .replies .now) (a .events .now) (eqb (length (a .buffer .now)) 32) (sym (c .before .before .before .before .judge .ensures) ∙ ap judgedTold (c .before .before .enum-told .given .1))
 
-abbrev μ-loop : tie.MeasureT-loop
-μ-loop replies events₀ buffer₀ state₀ answer₀ i₀ events buffer state answer i = length replies - i
-
-loop-holds : tie.Need-loop-holds Inv-loop μ-loop
-loop-holds c = (search needs, refl, refl, record { left = refl; last = refl; written = refl })
-
-loop-less : tie.Need-loop-less Inv-loop μ-loop
-loop-less c = omega arith
-
-loop-again : tie.Need-loop-again Inv-loop μ-loop
-loop-again c =
-    let l = c .before .before .before .before .before .before .before .before .before .before .before .before .loop in
-    let args = c .before .before .before .before .before .before .before .before .before .before .before .before .before .before .before .before .args in
-    let called = c .before .before .before .before .before .before .before .before .call in
-    let put = c .before .before .put in (
-      omega arith,
-      put .kept .0 ∙ l .inv .1,
-      called .kept .1 .1 .0 ∙ l .inv .2,
-      midway (readingAfter 64) (readingTold 64) _ (args .replies .now) _ (l .i) (reading (l .state) (l .buffer)) _ (l .events) (omega arith) (l .inv .3)
-          _ _ _
-          (ap₂ reading (called .ensures .1 .0) (called .ensures .1 .1))
-          (called .ensures .0)
-          (put .ensures ∙ ap (λ (x : ℕ). set (l .events) (l .i) x) (c .before .before .before .code .ensures)),
-    )
-
-same-length : tie.Need-same-length Inv-loop μ-loop
-same-length c = c .before .loop .inv .1
-
-same-length-2 : tie.Need-same-length-2 Inv-loop μ-loop
-same-length-2 c = c .before .loop .inv .2
-
-returns : tie.Need-returns Inv-loop μ-loop
+returns : tie.Need-returns
+unfolding pageFedTold pageFed pageFedEvents
 returns c =
-    let at = c .before in
-    let ends = arrived (readingAfter 64) (readingTold 64) _ (at .before .before .before .before .args .replies .now) _ (at .loop .i) _ _ (at .loop .events) (omega arith) (at .loop .inv .3) in
-    (ap (λ (x : Reading). x .state) (ends .0), (ap (λ (x : Reading). x .buffer) (ends .0), ends .1))
+    let refused = sym (c .before .before .before .judge .ensures) ∙ ap judgedTold (c .before .refusal .given .1) in
+    (simp refused, (simp refused, simp refused))
+
+returns-2 : tie.Need-returns-2
+unfolding pageFedTold pageFed pageFedEvents
+returns-2 c =
+    let fed = c .before .before .before .before .feed .ensures in
+    let accepted = sym (c .before .before .before .before .before .before .before .before .before .judge .ensures) ∙ ap judgedTold (c .before .before .before .before .before .before .before .enum-told .given .1) in
+    (fed .0 ∙ simp accepted, (fed .1 .0 ∙ simp accepted, fed .1 .1 ∙ simp accepted))
 
 pub run-spec : {M : Type 1} → statement M
 run-spec =
     tie.close
     (tie.spec
-    Inv-loop
-    μ-loop
-    loop-holds
-    (λ c. search needs)
-    (λ c κs. search needs)
-    (λ c κs. search needs)
     (λ c κs. search needs)
     (λ c. search needs)
-    loop-less
-    loop-again
-    same-length
-    same-length-2
-    returns)
+    (λ c. search needs)
+    feed-requires
+    (λ c. search needs)
+    (λ c. search needs)
+    returns
+    (λ c. search needs)
+    (λ c. search needs)
+    returns-2)

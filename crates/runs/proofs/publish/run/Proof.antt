@@ -1,64 +1,42 @@
-use Prim.Native.Nat.{ℕ, _-_, _≤_}
-use mathlib.Core.Path.{_≡_, refl, ap, _∙_}
-use native.Mathlib.Omega.{arith}
-use lib.ListN.{length, set}
+use mathlib.Core.Path.{sym, ap, _∙_}
+use mathlib.Core.Bool.{_&&_}
 use borrow.Author.Needs.{needs}
-use Rattle.publisher.specs.Call.{turnTold, callAnswer, callState}
-use Rattle.runs.proofs.Runs.{Midway, midway, arrived}
+use Rattle.terms.specs.Told.{judgedTold}
+use Rattle.publisher.specs.Call.{inRange}
+use Rattle.runs.specs.Calls.{areReplies}
+use Rattle.runs.specs.Publisher.{publisherFedJudged, publisherFedTold, publisherFedState, publisherFedEvents}
+use Rattle.runs.proofs.Judged.{room}
 use Rattle.runs.proofs.publish.run.Statement.{statement}
 use Rattle.runs.proofs.publish.run.Tie as tie
 
-abbrev Inv-loop : tie.InvT-loop
-Inv-loop replies events₀ state₀ answer₀ i₀ events state answer i =
-    (i ≤ length replies)
-    × (length events ≡ length events₀)
-    × Midway (callState 64) (callAnswer 64) state₀ replies events₀ i state (turnTold answer) events
+feed-requires : tie.Need-feed-requires
+unfolding publisherFedJudged
+feed-requires c κs =
+    let a = c .before .before .before .before .before .before .before .args in
+    room (inRange 64 (a .start) && areReplies (a .replies .now)) (a .replies .now) (a .events .now) (sym (c .before .before .before .judge .ensures) ∙ ap judgedTold (c .before .enum-told .given .1))
 
-abbrev μ-loop : tie.MeasureT-loop
-μ-loop replies events₀ state₀ answer₀ i₀ events state answer i = length replies - i
-
-loop-holds : tie.Need-loop-holds Inv-loop μ-loop
-loop-holds c = (search needs, refl, record { left = refl; last = refl; written = refl })
-
-loop-less : tie.Need-loop-less Inv-loop μ-loop
-loop-less c = omega arith
-
-loop-again : tie.Need-loop-again Inv-loop μ-loop
-loop-again c =
-    let l = c .before .before .before .before .before .before .before .before .before .loop in
-    let args = c .before .before .before .before .before .before .before .before .before .before .before .before .args in
-    let called = c .before .before .before .before .before .before .call in
-    let put = c .before .before .put in (
-      omega arith,
-      put .kept .0 ∙ l .inv .1,
-      midway (callState 64) (callAnswer 64) _ (args .replies .now) _ (l .i) (l .state) _ (l .events) (omega arith) (l .inv .2)
-          _ _ _
-          (called .ensures .1)
-          (called .ensures .0)
-          (put .ensures ∙ ap (λ (x : ℕ). set (l .events) (l .i) x) (c .before .before .before .code .ensures)),
-    )
-
-same-length : tie.Need-same-length Inv-loop μ-loop
-same-length c = c .before .loop .inv .1
-
-returns : tie.Need-returns Inv-loop μ-loop
+returns : tie.Need-returns
+unfolding publisherFedTold publisherFedState publisherFedEvents
 returns c =
-    let at = c .before in
-    arrived (callState 64) (callAnswer 64) _ (at .before .before .before .args .replies .now) _ (at .loop .i) (at .loop .state) _ (at .loop .events) (omega arith) (at .loop .inv .2)
+    let refused = sym (c .before .before .before .judge .ensures) ∙ ap judgedTold (c .before .refusal .given .1) in
+    (simp refused, (simp refused, simp refused))
+
+returns-2 : tie.Need-returns-2
+unfolding publisherFedTold publisherFedState publisherFedEvents
+returns-2 c =
+    let fed = c .before .before .feed .ensures in
+    let accepted = sym (c .before .before .before .before .before .before .judge .ensures) ∙ ap judgedTold (c .before .before .before .before .enum-told .given .1) in
+    (fed .0 ∙ simp accepted, (fed .1 .0 ∙ simp accepted, fed .1 .1 ∙ simp accepted))
 
 pub run-spec : {M : Type 1} → statement M
 run-spec =
     tie.close
     (tie.spec
-    Inv-loop
-    μ-loop
-    loop-holds
-    (λ c. search needs)
-    (λ c κs. search needs)
-    (λ c κs. search needs)
     (λ c κs. search needs)
     (λ c. search needs)
-    loop-less
-    loop-again
-    same-length
-    returns)
+    (λ c. search needs)
+    feed-requires
+    (λ c. search needs)
+    returns
+    (λ c. search needs)
+    returns-2)

@@ -1,0 +1,12 @@
+use mathlib.Core.Path.{_∙_}
+use Rattle.runs.specs.Number.{numberFedJudged}
+use borrow.Author.Needs.{needs}
+use Rattle.runs.proofs.number.judge.Statement.{statement}
+use Rattle.runs.proofs.number.judge.Tie as tie
+
+returns : tie.Need-returns
+unfolding numberFedJudged
+returns c = c .judge .ensures ∙ simp (c .before .in-range .ensures)
+
+pub judge-spec : {M : Type 1} → statement M
+judge-spec = tie.close (tie.spec (λ c κs. search needs) (λ c κs. search needs) returns)

@@ -1,0 +1,12 @@
+use borrow.Author.Tests.{eq-eqb, ne-eqb}
+use Rattle.runs.proofs.page.are_right.Statement.{statement}
+use Rattle.runs.proofs.page.are_right.Tie as tie
+
+returns : tie.Need-returns
+returns c = simp (ne-eqb _ _ (c .if1 .taken))
+
+returns-2 : tie.Need-returns-2
+returns-2 c = simp (eq-eqb _ _ (c .if1 .left))
+
+pub are-right-spec : {M : Type 1} → statement M
+are-right-spec = tie.close (tie.spec returns returns-2)

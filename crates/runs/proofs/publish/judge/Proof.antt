@@ -1,0 +1,12 @@
+use mathlib.Core.Path.{_∙_}
+use Rattle.runs.specs.Publisher.{publisherFedJudged}
+use borrow.Author.Needs.{needs}
+use Rattle.runs.proofs.publish.judge.Statement.{statement}
+use Rattle.runs.proofs.publish.judge.Tie as tie
+
+returns : tie.Need-returns
+unfolding publisherFedJudged
+returns c = c .judge .ensures ∙ simp (c .before .in-range .ensures)
+
+pub judge-spec : {M : Type 1} → statement M
+judge-spec = tie.close (tie.spec (λ c κs. search needs) (λ c κs. search needs) returns)
