@@ -460,6 +460,7 @@ fn drawn_images() {
             }
         }
     }
+    assert_eq!(seen.0.values().sum::<usize>(), 80_000);
     seen.assert_often(&[0, 4, 5, 16, 17, 18, 19], 1000);
     sheets.assert_often(&[0, 4, 5, 16, 17, 18, 19], 500);
 }
