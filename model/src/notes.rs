@@ -11,7 +11,7 @@ fn table(value: impl Fn(u8) -> String) -> String {
         .collect()
 }
 
-pub fn all() -> String {
+pub fn text() -> String {
     let mut register = Crc16::loaded(0x90F1);
     register.take_byte(0x75);
     [

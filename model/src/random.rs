@@ -11,14 +11,6 @@ pub struct Generator {
     state: u64,
 }
 
-/// The generator's three shifts.
-pub fn shifted(mut state: u64) -> u64 {
-    state ^= state << 13;
-    state ^= state >> 7;
-    state ^= state << 17;
-    state
-}
-
 impl Generator {
     pub fn new(seed: u64) -> Generator {
         // The state 0 would stay 0.
@@ -27,13 +19,10 @@ impl Generator {
         }
     }
 
-    /// The generator with this state, which is not 0.
-    pub fn at(state: u64) -> Generator {
-        Generator { state }
-    }
-
     pub fn number(&mut self) -> u64 {
-        self.state = shifted(self.state);
+        self.state ^= self.state << 13;
+        self.state ^= self.state >> 7;
+        self.state ^= self.state << 17;
         self.state
     }
 

@@ -1,13 +1,15 @@
-//! The named rows, with their values in plain text.
+//! The rows of the test tray that are run, those of 01 without a star and those
+//! that M-100, M-101 and M-104 added, in plain text. The program `plug_rows`
+//! must write the same.
 
-use super::redirection;
 use crate::bits::{bits_of, bytes_of};
 use crate::chip::{Chip, Event, MemoryCommand, WriteMode};
-use crate::crc::{crc16_sent, crc8};
+use crate::crc::crc8;
 use crate::memory::{
     blank_image, check_page, page_bytes, DATA_LENGTH, DATA_PROTECTION, REDIRECTION_PROTECTION,
     USED_BITMAP,
 };
+use crate::notes;
 use crate::number_read::read_number;
 use crate::publisher::{update, Outcome};
 use crate::random::chain_image;
@@ -44,26 +46,6 @@ fn bytes_text(bytes: &[u8]) -> String {
     bytes.iter().map(|byte| format!(" {byte:02x}")).collect()
 }
 
-fn walks() -> String {
-    let mut text = String::new();
-    for byte in [0xFD, 0xFE, 0xC0, 0xBF, 0x00, 0x37] {
-        let mut image = blank_image();
-        image[redirection(1)] = byte;
-        let verdict = walk_text(&image, 1);
-        text += &format!("redirection byte of page 1 {byte:02x}: {verdict}\n");
-    }
-    let mut pages: Vec<u8> = (0..64).collect();
-    let verdict = walk_text(&chain_image(&pages), 0);
-    text += &format!("chain 0, 1, .. 63, from 0: {verdict}\n");
-    for last in [1, 200] {
-        pages.push(last);
-        let verdict = walk_text(&chain_image(&pages), 0);
-        text += &format!("the same with page 63 naming {last}: {verdict}\n");
-        pages.pop();
-    }
-    text
-}
-
 fn send(chip: &mut Chip, bytes: &[u8]) {
     for bit in bits_of(bytes) {
         chip.event(Event::Slot(bit));
@@ -86,18 +68,19 @@ fn begun(image: Vec<u8>, bytes: &[u8]) -> Chip {
     chip
 }
 
-/// Bytes written at data address 25h, on page 1; the last with a bit of the
+/// Bytes written at data address 25h, on page 1; the last two with a bit of the
 /// start address set that the chip drops. A quick write has no CRC.
-fn writes(mode: WriteMode) -> String {
-    let command = MemoryCommand::WriteMemory(mode).byte();
-    let quick = mode_text(mode);
+fn writes() -> String {
     let mut text = String::new();
-    for (high, old, sent, protected) in [
-        (0x00, 0xF0, 0x0F, false),
-        (0x00, 0x5A, 0xFF, false),
-        (0x00, 0x5A, 0x0F, true),
-        (0x08, 0xF0, 0x0F, false),
+    for (mode, high, old, sent, protected) in [
+        (WriteMode::Quick, 0x00, 0xF0, 0x0F, false),
+        (WriteMode::Quick, 0x00, 0x5A, 0xFF, false),
+        (WriteMode::Quick, 0x00, 0x5A, 0x0F, true),
+        (WriteMode::Quick, 0x08, 0xF0, 0x0F, false),
+        (WriteMode::Ordinary, 0x08, 0xF0, 0x0F, false),
     ] {
+        let command = MemoryCommand::WriteMemory(mode).byte();
+        let quick = mode_text(mode);
         let mut image = blank_image();
         image[0x25] = old;
         if protected {
@@ -272,23 +255,21 @@ fn protected(mode: WriteMode) -> String {
     .concat()
 }
 
-pub fn all() -> String {
-    let none = bytes_text(&crc16_sent(&[]));
+/// What the program `plug_rows` writes.
+pub fn text() -> String {
     [
-        walks(),
-        writes(WriteMode::Ordinary),
-        format!("crc-16 of no bytes is sent as{none}\n"),
         starts(),
+        writes(),
+        quick_starts(),
+        quick_pulses(),
         zero_number(),
         cuts(WriteMode::Ordinary, 1213),
         updates(WriteMode::Ordinary),
         protected(WriteMode::Ordinary),
-        writes(WriteMode::Quick),
-        quick_starts(),
-        quick_pulses(),
         cuts(WriteMode::Quick, 669),
         updates(WriteMode::Quick),
         protected(WriteMode::Quick),
+        notes::text(),
     ]
     .concat()
 }

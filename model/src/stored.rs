@@ -3,21 +3,13 @@
 
 use std::path::{Path, PathBuf};
 
-use crate::{lookup, lookup_cases, samples, sheet, tray};
+use crate::{lookup, lookup_cases, rows, samples, sheet};
 
 /// Each stored file, with the bytes that it must hold.
 pub fn files() -> Vec<(PathBuf, Vec<u8>)> {
     let top = Path::new(env!("CARGO_MANIFEST_DIR")).join("..");
     let mut files = vec![
-        ("crates/tray/stdout".into(), tray::text().into_bytes()),
-        (
-            "crates/tray_chip/stdout".into(),
-            tray::chip_text().into_bytes(),
-        ),
-        (
-            "crates/tray_masters/stdout".into(),
-            tray::masters_text().into_bytes(),
-        ),
+        ("crates/plug_rows/stdout".into(), rows::text().into_bytes()),
         ("crates/list_cases/stdin".into(), samples::cases_input()),
         (
             "crates/list_cases/stdout".into(),

@@ -1,0 +1,550 @@
+// The rows of the test tray that are run, those of 01 without a star and those that M-100, M-101 and M-104 added, and Application Note 27's
+// values, in plain text. A second program, written from the papers alone, must write the same.
+use chip::event::State;
+use chip::walk::Walked;
+use libc::STDOUT_FILENO;
+use number_read::Answer;
+use number_read::NumberRead;
+use terms::address::Page;
+use terms::address::Space;
+use terms::bits;
+use terms::refusal::Given;
+use terms::refusal::Refusal;
+use terms::verdict::Verdict;
+use terms::write_mode;
+use terms::write_mode::WriteMode;
+use update::Updated;
+
+// ---- text
+
+fn say(words: &[u8]) {
+    io::write_all(STDOUT_FILENO, words);
+}
+
+fn say_decimal(n: u64) {
+    io::print_decimal(STDOUT_FILENO, n);
+}
+
+// A space and a number in so many hexadecimal digits.
+fn say_hex(n: u64, digits: usize) {
+    say(b" ");
+    io::print_hex(STDOUT_FILENO, n, digits);
+}
+
+fn say_byte(b: u8) {
+    say_hex(b as u64, 2);
+}
+
+fn say_bytes(bytes: &[u8]) {
+    for i in 0..bytes.len() {
+        say_byte(bytes[i]);
+    }
+}
+
+// What a row of the quick mode begins with.
+fn say_mode(mode: WriteMode) {
+    match mode {
+        WriteMode::Ordinary => {}
+        WriteMode::Quick => say(b"quick, "),
+    }
+}
+
+fn say_given_back(r: Refusal) {
+    match terms::refusal::given_back(r) {
+        Given::Nothing => {}
+        Given::One(v) => {
+            say(b" with ");
+            say_decimal(v as u64);
+        }
+    }
+}
+
+fn say_refusal(r: Refusal) {
+    say(b"refused ");
+    say_decimal(terms::refusal::number(r) as u64);
+    say_given_back(r);
+}
+
+// Two numbers, each after its words.
+fn say_two(a: &[u8], x: u8, b: &[u8], y: u8) {
+    say(a);
+    say_decimal(x as u64);
+    say(b);
+    say_decimal(y as u64);
+}
+
+// ---- a chip on the line
+
+// A chip, and the byte that its last eight replies make.
+struct Heard {
+    state: State,
+    byte: u8,
+}
+
+// The codes of the eight slots with these bits.
+fn slots_of(byte: u8) -> [u8; 8] {
+    [
+        bits::byte(bits::at(byte, 0)),
+        bits::byte(bits::at(byte, 1)),
+        bits::byte(bits::at(byte, 2)),
+        bits::byte(bits::at(byte, 3)),
+        bits::byte(bits::at(byte, 4)),
+        bits::byte(bits::at(byte, 5)),
+        bits::byte(bits::at(byte, 6)),
+        bits::byte(bits::at(byte, 7)),
+    ]
+}
+
+fn byte_of(replies: [u8; 8]) -> u8 {
+    let a = bits::shift_in(0, replies[0] == 1);
+    let b = bits::shift_in(a, replies[1] == 1);
+    let c = bits::shift_in(b, replies[2] == 1);
+    let d = bits::shift_in(c, replies[3] == 1);
+    let e = bits::shift_in(d, replies[4] == 1);
+    let f = bits::shift_in(e, replies[5] == 1);
+    let g = bits::shift_in(f, replies[6] == 1);
+    bits::shift_in(g, replies[7] == 1)
+}
+
+// Eight slots with the bits of a byte; with FFh they are read slots.
+fn send(state: State, byte: u8, image: &mut [u8; 2368]) -> Heard {
+    let mut replies = [0u8; 8];
+    let ran = chip::event::run(state, &slots_of(byte), image, &mut replies);
+    let next = ran.state;
+    Heard {
+        state: next,
+        byte: byte_of(replies),
+    }
+}
+
+fn send_only(state: State, byte: u8, image: &mut [u8; 2368]) -> State {
+    let heard = send(state, byte, image);
+    heard.state
+}
+
+// One event, as its code.
+fn event(state: State, code: u8, image: &mut [u8; 2368]) -> State {
+    let mut reply = [0u8; 1];
+    let ran = chip::event::run(state, &[code], image, &mut reply);
+    ran.state
+}
+
+const RESET: u8 = 2;
+
+const PULSE: u8 = 3;
+
+// A chip after a reset, Skip ROM, a command and a start address.
+fn begin(command: u8, high: u8, low: u8, image: &mut [u8; 2368]) -> State {
+    let reset = event(chip::event::power_up([0u8; 8]), RESET, image);
+    let skipped = send_only(reset, 0xCC, image);
+    let commanded = send_only(skipped, command, image);
+    let half = send_only(commanded, low, image);
+    send_only(half, high, image)
+}
+
+// A byte is read and told.
+fn say_next(state: State, image: &mut [u8; 2368]) -> State {
+    let heard = send(state, 0xFF, image);
+    say_byte(heard.byte);
+    heard.state
+}
+
+fn say_start(command: u8, high: u8, low: u8) {
+    say(b"command");
+    say_byte(command);
+    say(b" start");
+    say_byte(high);
+    say_byte(low);
+}
+
+// ---- reads
+
+// A blank image with bytes at the first and the last data address.
+fn with_ends() -> [u8; 2368] {
+    let mut image = [0xFFu8; 2368];
+    image[0x000] = 0x3C;
+    image[0x7FF] = 0x5A;
+    image
+}
+
+// Five bytes are read after a start address.
+fn read_from(command: u8, high: u8, low: u8) {
+    let mut image = with_ends();
+    let start = begin(command, high, low, &mut image);
+    say_start(command, high, low);
+    say(b":");
+    let a = say_next(start, &mut image);
+    let b = say_next(a, &mut image);
+    let c = say_next(b, &mut image);
+    let d = say_next(c, &mut image);
+    say_next(d, &mut image);
+    say(b"\n");
+}
+
+// A byte, its CRC, then ones; ones alone where the memory does not have the address; and the same with bits set that the chip drops.
+fn reads() {
+    read_from(0xF0, 0x07, 0xFF);
+    read_from(0xF0, 0x08, 0x00);
+    read_from(0xF0, 0xFF, 0xFF);
+    read_from(0xA5, 0x08, 0x00);
+    read_from(0xAA, 0x01, 0x3F);
+    read_from(0xAA, 0x01, 0x40);
+    read_from(0xAA, 0x09, 0x3F);
+    read_from(0xAA, 0x09, 0x40);
+}
+
+// ---- writes
+
+// The CRC is read and told where the mode has one.
+fn say_crc(mode: WriteMode, state: State, image: &mut [u8; 2368]) -> State {
+    match mode {
+        WriteMode::Ordinary => {
+            say(b" crc");
+            let low = say_next(state, image);
+            let high = say_next(low, image);
+            say(b",");
+            high
+        }
+        WriteMode::Quick => state,
+    }
+}
+
+// 0Fh or another byte is written at data address 25h, on page 1, where the image holds another; `protection` is status byte 000h.
+fn write(mode: WriteMode, words: &[u8], high: u8, old: u8, sent: u8, protection: u8) {
+    let mut image = [0xFFu8; 2368];
+    image[0x25] = old;
+    image[2048] = protection;
+    say_mode(mode);
+    say(words);
+    say(b":");
+    let begun = begin(
+        write_mode::command(mode, Space::Data),
+        high,
+        0x25,
+        &mut image,
+    );
+    let told = send_only(begun, sent, &mut image);
+    let armed = say_crc(mode, told, &mut image);
+    let written = event(armed, PULSE, &mut image);
+    say(b" read back");
+    say_next(written, &mut image);
+    say(b", held");
+    say_byte(image[0x25]);
+    say(b"\n");
+}
+
+// The last two have a bit of the start address set that the chip drops.
+fn writes() {
+    let quick = WriteMode::Quick;
+    write(quick, b"0f written over f0", 0x00, 0xF0, 0x0F, 0xFF);
+    write(quick, b"ff written over 5a", 0x00, 0x5A, 0xFF, 0xFF);
+    write(
+        quick,
+        b"0f written over a protected 5a",
+        0x00,
+        0x5A,
+        0x0F,
+        0xFD,
+    );
+    let dropped = b"0f written over f0 from start 08 25";
+    write(quick, dropped, 0x08, 0xF0, 0x0F, 0xFF);
+    write(WriteMode::Ordinary, dropped, 0x08, 0xF0, 0x0F, 0xFF);
+}
+
+// A byte by a quick write, and what is read back.
+fn quick_byte(state: State, byte: u8, image: &mut [u8; 2368]) -> State {
+    let armed = send_only(state, byte, image);
+    say_next(event(armed, PULSE, image), image)
+}
+
+// Two bytes by a quick write from a start address.
+fn quick_from(command: u8, high: u8, low: u8) {
+    let mut image = with_ends();
+    say_start(command, high, low);
+    say(b", 0f 33 written: read back");
+    let begun = begin(command, high, low, &mut image);
+    quick_byte(quick_byte(begun, 0x0F, &mut image), 0x33, &mut image);
+    say(b"\n");
+}
+
+// The second byte beyond the last address, or both, or the start with a bit set that the chip drops.
+fn quick_starts() {
+    quick_from(0xF3, 0x07, 0xFF);
+    quick_from(0xF3, 0x08, 0x00);
+    quick_from(0xF5, 0x01, 0x3F);
+    quick_from(0xF5, 0x01, 0x40);
+    quick_from(0xF5, 0x09, 0x3F);
+}
+
+// So many slots, in which the bits of 0Fh come again and again.
+fn send_slots(start: State, slots: u8, image: &mut [u8; 2368]) -> State {
+    let mut state = start;
+    for i in 0..slots {
+        state = event(state, bits::byte(bits::at(0x0F, i)), image);
+    }
+    state
+}
+
+// A quick write of 0Fh over 5Ah at data address 25h, with its pulse after so many slots.
+fn quick_pulse(slots: u8) {
+    let mut image = [0xFFu8; 2368];
+    image[0x25] = 0x5A;
+    let begun = begin(0xF3, 0x00, 0x25, &mut image);
+    let sent = send_slots(begun, slots, &mut image);
+    event(sent, PULSE, &mut image);
+    say(b"quick, 0f over 5a with the pulse after ");
+    say_decimal(slots as u64);
+    say(b" slots: held");
+    say_byte(image[0x25]);
+    say(b"\n");
+}
+
+// One short, the whole byte, and one slot more.
+fn quick_pulses() {
+    quick_pulse(7);
+    quick_pulse(8);
+    quick_pulse(9);
+}
+
+// ---- the number
+
+// The codes of the 74 events of a number read: reset, 33h, 64 read slots, reset.
+fn number_events() -> [u8; 74] {
+    let mut codes = [1u8; 74];
+    codes[0] = RESET;
+    codes[3] = 0;
+    codes[4] = 0;
+    codes[7] = 0;
+    codes[8] = 0;
+    codes[73] = RESET;
+    codes
+}
+
+// The master's answer to these replies.
+fn answer_to(replies: [u8; 74]) -> Answer {
+    let mut stepped = number_read::call(number_read::start(), true);
+    for i in 0..74 {
+        let state: NumberRead = stepped.state;
+        stepped = number_read::call(state, replies[i] == 1);
+    }
+    stepped.answer
+}
+
+fn say_answer(answer: Answer) {
+    match answer {
+        Answer::Send(_) => say(b"no end"),
+        Answer::Done => say(b"accepted"),
+        Answer::Refused(r) => say_refusal(r),
+    }
+}
+
+fn zero_number() {
+    let mut image = [0xFFu8; 2368];
+    let mut replies = [0u8; 74];
+    let chip = chip::event::power_up([0u8; 8]);
+    chip::event::run(chip, &number_events(), &mut image, &mut replies);
+    say(b"eight zero bytes as a number: crc-8");
+    say_byte(crc::crc8::of(&[0u8; 7]));
+    say(b", ");
+    say_answer(answer_to(replies));
+    say(b"\n");
+}
+
+// ---- updates
+
+fn say_verdict(v: Verdict) {
+    match v {
+        Verdict::Final(page, hops) => say_two(b"final ", page.0, b" hops ", hops),
+        Verdict::Loop => say(b"loop"),
+        Verdict::Outside(_) => say(b"outside"),
+    }
+}
+
+fn say_walk(image: &[u8]) {
+    match chip::walk::walk(image, Page(0)) {
+        Walked::Refused(r) => say_refusal(r),
+        Walked::Ended(v) => say_verdict(v),
+    }
+}
+
+// A blank image but for page 0, which holds 11h in every byte.
+fn elevens() -> [u8; 2368] {
+    let mut image = [0xFFu8; 2368];
+    for i in 0..32 {
+        image[i] = 0x11;
+    }
+    image
+}
+
+// Page 0 is superseded by 22h in every byte.
+fn cut(mode: WriteMode, events: u32, final_page: u8) {
+    let mut image = elevens();
+    update::update(mode, &mut image, [0u8; 8], &[0x22u8; 32], Page(0), events);
+    say_mode(mode);
+    say(b"cut after event ");
+    say_decimal(events as u64);
+    say(b": page 0 ");
+    say_walk(&image);
+    say(b",");
+    say_bytes(chip::page::part(&image, Page(final_page)));
+    say(b"\n");
+}
+
+fn say_updated(u: Updated) {
+    match u {
+        Updated::Refused(r) => say_refusal(r),
+        Updated::Ran(l, t) => say_two(b"L = ", l.0, b", T = ", t.0),
+    }
+}
+
+// A whole update; in the quick mode it has fewer events.
+fn whole(mode: WriteMode, words: &[u8], page: u8, image: &mut [u8; 2368]) {
+    say_mode(mode);
+    say(words);
+    say(b", p = ");
+    say_decimal(page as u64);
+    say(b": ");
+    say_updated(update::update(mode, image, [0u8; 8], &[0x22u8; 32], Page(page), 1222));
+    say(b"\n");
+}
+
+fn blank(mode: WriteMode, page: u8) {
+    let mut image = [0xFFu8; 2368];
+    whole(mode, b"blank image", page, &mut image);
+}
+
+// The used-page bitmap is status 040h to 047h.
+fn full(mode: WriteMode) {
+    let mut image = [0xFFu8; 2368];
+    image[2112] = 0x03;
+    image[2113] = 0x00;
+    image[2114] = 0x00;
+    image[2115] = 0x00;
+    image[2116] = 0x00;
+    image[2117] = 0x00;
+    image[2118] = 0x00;
+    image[2119] = 0x00;
+    whole(
+        mode,
+        b"the same with pages 2 to 63 marked used",
+        1,
+        &mut image,
+    );
+}
+
+// Page 5 names page 9, so that L is 9, and T is 1 where that is free. `first` and `second` are the protection bytes of pages 0 to 7 and 8 to
+// 15 (000h, 001h), `redirection` that of the redirection bytes of 8 to 15 (021h).
+fn led(mode: WriteMode, words: &[u8], first: u8, second: u8, redirection: u8) {
+    let mut image = [0xFFu8; 2368];
+    image[2309] = 255 - 9;
+    image[2048] = first;
+    image[2049] = second;
+    image[2081] = redirection;
+    whole(mode, words, 5, &mut image);
+}
+
+fn protected(mode: WriteMode) {
+    led(
+        mode,
+        b"page 5 naming 9, nothing protected",
+        0xFF,
+        0xFF,
+        0xFF,
+    );
+    led(
+        mode,
+        b"page 5 naming 9, data of 5 protected",
+        0xDF,
+        0xFF,
+        0xFF,
+    );
+    led(
+        mode,
+        b"page 5 naming 9, data of 1 protected",
+        0xFD,
+        0xFF,
+        0xFF,
+    );
+    led(
+        mode,
+        b"page 5 naming 9, data of 9 protected",
+        0xFF,
+        0xFD,
+        0xFF,
+    );
+    led(
+        mode,
+        b"page 5 naming 9, redirection byte of 9 protected",
+        0xFF,
+        0xFF,
+        0xFD,
+    );
+    led(
+        mode,
+        b"page 5 naming 9, both of 9 protected",
+        0xFF,
+        0xFD,
+        0xFD,
+    );
+}
+
+// The visible event is the one after which the cut leaves the new page.
+fn updates(mode: WriteMode, before: u32, visible: u32) {
+    cut(mode, before, 0);
+    cut(mode, visible, 1);
+    blank(mode, 0);
+    blank(mode, 1);
+    full(mode);
+    protected(mode);
+}
+
+// ---- Application Note 27
+
+// What one byte makes of a cleared register.
+fn entry(wide: bool, byte: u8) {
+    if wide {
+        say_hex(crc::crc16::byte(0, byte) as u64, 4);
+    } else {
+        say_byte(crc::crc8::byte(0, byte));
+    }
+}
+
+// A line ends after each sixteenth entry.
+fn end_row(k: u64) {
+    if k % 16 == 15 {
+        say(b"\n");
+    }
+}
+
+fn table(words: &[u8], wide: bool) {
+    say(words);
+    for k in 0..256u64 {
+        entry(wide, (k % 256) as u8);
+        end_row(k);
+    }
+}
+
+fn worked_values() {
+    say(b"crc-8 of 02 1c b8 01 00 00 00:");
+    say_byte(crc::crc8::of(&[0x02, 0x1C, 0xB8, 0x01, 0x00, 0x00, 0x00]));
+    say(b"\ncrc-16 register 90f1 after byte 75:");
+    say_hex(crc::crc16::byte(0x90F1, 0x75) as u64, 4);
+    say(b"\ncrc-8 of 123456789:");
+    say_byte(crc::crc8::of(b"123456789"));
+    say(b"\ncrc-16 of 123456789:");
+    say_hex(crc::crc16::of(b"123456789") as u64, 4);
+    say(b"\n");
+}
+
+fn main() {
+    reads();
+    writes();
+    quick_starts();
+    quick_pulses();
+    zero_number();
+    updates(WriteMode::Ordinary, 1212, 1213);
+    updates(WriteMode::Quick, 668, 669);
+    table(b"crc-8 of each single byte, 16 to a row:\n", false);
+    table(b"crc-16 of each single byte, 16 to a row:\n", true);
+    worked_values();
+}
