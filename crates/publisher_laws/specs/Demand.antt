@@ -72,5 +72,5 @@ pub record Demand3 (n : ℕ) (mode : WriteMode) (c : Chip) (new : List ℕ) (p :
 
 -- Demand 3 of every chip with n pages that is within its ranges, every 32 or other bytes, page and list of replies, in both modes. It is
 -- proved of every multiple of 8 up to 256, and cited at 64.
-pub Demand3Of : ℕ → Type 0
+abbrev pub Demand3Of : ℕ → Type 0
 Demand3Of n = (mode : WriteMode) (c : Chip) (new : List ℕ) (p : ℕ) (replies : List Bool) → Ready n c → Bytes new → Demand3 n mode c new p replies
