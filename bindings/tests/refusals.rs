@@ -678,7 +678,7 @@ fn the_page_read() {
     let good = Call::new(vec![page_state(&[1, 0, 0, 0]), mark(32), mark(16)], 0);
     let faults = [
         fault(2, |call| call.small = 255),
-        fault(2, |call| call.buffers[0][5] = 64),
+        fault(2, |call| call.buffers[0][8] = 64),
         fault(10, |call| shorten(call, 2)),
         fault(10, |call| shorten(call, 1)),
     ];
@@ -739,8 +739,8 @@ fn the_publisher() {
         let good = Call::new(vec![publisher_state(function, &[1, 0]), mark(16)], 0);
         let faults = [
             fault(2, |call| call.small = 2),
-            fault(2, |call| call.buffers[0][6] = 64),
-            fault(2, |call| call.buffers[0][9] = 2),
+            fault(2, |call| call.buffers[0][9] = 64),
+            fault(2, |call| call.buffers[0][11] = 2),
             fault(10, |call| lengthen(call, 1)),
         ];
         assert_order(&name, publisher_call, &good, &faults);

@@ -17,203 +17,165 @@ use ds2505_model::crc::{crc16, crc8, Crc16};
 use ds2505_model::memory::{DataAddress, StatusAddress};
 use ds2505_model::random::{any_image, Generator};
 
-/// The front of a packed state.
-#[derive(Clone, Copy, Default)]
-struct Front {
-    kind: u8,
-    what: u8,
-    count: u8,
-    which: u8,
-    value: u8,
-    page: u8,
-    other: u8,
-    first: u16,
-    second: u16,
-    third: u16,
-}
-
-/// None where the last three bytes aren't 0.
-fn front(state: &[u8]) -> Option<Front> {
-    let word = |place: usize| u16::from_le_bytes([state[place], state[place + 1]]);
-    (state[13..16] == [0; 3]).then(|| Front {
-        kind: state[0],
-        what: state[1],
-        count: state[2],
-        which: state[3],
-        value: state[4],
-        page: state[5],
-        other: state[6],
-        first: word(7),
-        second: word(9),
-        third: word(11),
-    })
-}
-
-/// The bytes of a front, and those after it.
-fn packed<const SIZE: usize>(f: Front, rest: &[u8]) -> [u8; SIZE] {
+/// A state's enum, then, from `place` on, its other fields, and after the
+/// front its array.
+fn packed<const SIZE: usize>(
+    tagged: &[u8],
+    place: usize,
+    fields: &[u8],
+    rest: &[u8],
+) -> [u8; SIZE] {
     let mut state = [0; SIZE];
-    let bytes = [f.kind, f.what, f.count, f.which, f.value, f.page, f.other];
-    state[..7].copy_from_slice(&bytes);
-    state[7..9].copy_from_slice(&f.first.to_le_bytes());
-    state[9..11].copy_from_slice(&f.second.to_le_bytes());
-    state[11..13].copy_from_slice(&f.third.to_le_bytes());
+    state[..tagged.len()].copy_from_slice(tagged);
+    state[place..][..fields.len()].copy_from_slice(fields);
     state[16..].copy_from_slice(rest);
     state
 }
 
-/// The number of a mode in a publisher's state.
-fn mode_number(mode: WriteMode) -> u16 {
+fn chip_state(stage: &[u8], number: &[u8; 8]) -> [u8; 24] {
+    packed(stage, 12, &[], number)
+}
+
+fn number_state(phase: &[u8], number: &[u8; 8]) -> [u8; 24] {
+    packed(phase, 8, &[], number)
+}
+
+fn page_state(phase: &[u8], [page, hops]: [u8; 2], bytes: &[u8; 32]) -> [u8; 48] {
+    packed(phase, 8, &[page, hops], bytes)
+}
+
+/// `fields` are L, T, T's bitmap byte and the mode.
+fn publisher_state(stage: &[u8], fields: [u8; 4], new: &[u8; 32]) -> [u8; 48] {
+    packed(stage, 8, &fields, new)
+}
+
+/// The number of a mode in a state.
+fn mode_number(mode: WriteMode) -> u8 {
     match mode {
         WriteMode::Ordinary => 0,
         WriteMode::Quick => 1,
     }
 }
 
-fn data_address(address: u16) -> bool {
-    address < 0x800
+fn zeros(bytes: &[u8]) -> bool {
+    bytes.iter().all(|&byte| byte == 0)
 }
 
-fn status_address(address: u16) -> bool {
-    address < 0x140
+fn data_address(low: u8, high: u8) -> bool {
+    u16::from_le_bytes([low, high]) < 0x800
 }
 
-/// A memory and a mode of writing, and an address in that memory.
-fn target(which: u8, address: u16) -> bool {
-    match which {
-        0 | 2 => data_address(address),
-        1 | 3 => status_address(address),
+fn status_address(low: u8, high: u8) -> bool {
+    u16::from_le_bytes([low, high]) < 0x140
+}
+
+fn is_byte(left: u8) -> bool {
+    (1..=8).contains(&left)
+}
+
+fn is_crc(left: u8) -> bool {
+    (1..=16).contains(&left)
+}
+
+/// A memory and an address in it, to the end.
+fn is_target(bytes: &[u8]) -> bool {
+    match *bytes {
+        [0, low, high, ref rest @ ..] => data_address(low, high) && zeros(rest),
+        [1, low, high, ref rest @ ..] => status_address(low, high) && zeros(rest),
+        _ => false,
+    }
+}
+
+fn is_incoming(bytes: &[u8]) -> bool {
+    match *bytes {
+        [0, ref rest @ ..] => zeros(rest),
+        [1, command, ref rest @ ..] => command < 7 && zeros(rest),
+        [2, command, _, ref rest @ ..] => command < 7 && zeros(rest),
+        [3, mode, ref target @ ..] => mode < 2 && is_target(target),
+        _ => false,
+    }
+}
+
+fn is_outgoing(left: u8, bytes: &[u8]) -> bool {
+    match *bytes {
+        [0 | 4 | 6, low, high, ref rest @ ..] => {
+            is_byte(left) && data_address(low, high) && zeros(rest)
+        }
+        [1, ref rest @ ..] => is_crc(left) && zeros(rest),
+        [2, low, high, ref rest @ ..] => is_byte(left) && status_address(low, high) && zeros(rest),
+        [3, low, high, ref rest @ ..] => is_crc(left) && status_address(low, high) && zeros(rest),
+        [5 | 7, low, high, ref rest @ ..] => is_crc(left) && data_address(low, high) && zeros(rest),
+        [8, _, ref target @ ..] => is_crc(left) && is_target(target),
+        [9, mode, ref target @ ..] => is_byte(left) && mode < 2 && is_target(target),
         _ => false,
     }
 }
 
 fn is_chip_state(state: &[u8]) -> bool {
-    let Some(f) = front(state) else {
-        return false;
-    };
-    if f.page != 0 {
-        return false;
-    }
-    let no_words = (f.first, f.second, f.third) == (0, 0, 0);
-    match f.kind {
-        0 => no_words && (f.what, f.count, f.which, f.value, f.other) == (0, 0, 0, 0, 0),
-        1 => no_words && (f.what, f.which, f.other) == (0, 0, 0) && f.count < 8,
-        2 => no_words && (f.which, f.value, f.other) == (0, 0, 0) && f.what < 5 && f.count < 64,
-        3 => {
-            f.second == 0
-                && f.count < 8
-                && match f.what {
-                    0 => (f.which, f.value, f.first) == (0, 0, 0),
-                    1 => f.which < 7 && (f.value, f.first) == (0, 0),
-                    2 => f.which < 7 && f.first == 0,
-                    3 => f.value == 0 && target(f.which, f.first),
-                    _ => false,
-                }
+    let (stage, fields) = state[..16].split_at(12);
+    zeros(fields)
+        && match *stage {
+            [0, ref rest @ ..] => zeros(rest),
+            [1, count, _, ref rest @ ..] => count < 8 && zeros(rest),
+            [2, step, bit, ref rest @ ..] => step < 5 && bit < 64 && zeros(rest),
+            [3, count, _, _, _, ref incoming @ ..] => count < 8 && is_incoming(incoming),
+            [4, left, _, _, _, _, ref outgoing @ ..] => is_outgoing(left, outgoing),
+            [5, _, mode, ref target @ ..] => mode < 2 && is_target(target),
+            _ => false,
         }
-        4 => {
-            let byte = (1..=8).contains(&f.count);
-            let crc = (1..=16).contains(&f.count);
-            let bare = (f.which, f.value) == (0, 0);
-            f.other == 0
-                && match f.what {
-                    0 | 4 | 6 => bare && byte && data_address(f.first),
-                    1 => bare && crc && f.first == 0,
-                    2 => bare && byte && status_address(f.first),
-                    3 => bare && crc && status_address(f.first),
-                    5 | 7 => bare && crc && data_address(f.first),
-                    8 => crc && f.which < 2 && target(f.which, f.first),
-                    9 => byte && f.value == 0 && target(f.which, f.first),
-                    _ => false,
-                }
-        }
-        5 => {
-            (f.what, f.count, f.other) == (0, 0, 0)
-                && (f.second, f.third) == (0, 0)
-                && target(f.which, f.first)
-        }
-        _ => false,
-    }
 }
 
 fn is_number_state(state: &[u8]) -> bool {
-    let Some(f) = front(state) else {
-        return false;
-    };
-    if (f.page, f.other) != (0, 0) || (f.first, f.second, f.third) != (0, 0, 0) {
-        return false;
-    }
+    let (phase, fields) = state[..16].split_at(8);
     let number = &state[16..];
     let sound = crc8(&number[..7]) == number[7] && number[0] == 0x0B;
-    let bare = (f.what, f.count, f.which, f.value) == (0, 0, 0, 0);
-    match f.kind {
-        0 | 1 => bare,
-        2 => (f.what, f.which, f.value) == (0, 0, 0) && f.count < 8,
-        3 => f.which == 0 && f.what < 8 && (1..=8).contains(&f.count),
-        4 | 5 => bare && sound,
-        6 => (f.what, f.count, f.value) == (0, 0, 0) && [13, 14, 15].contains(&f.which),
-        _ => false,
-    }
+    zeros(fields)
+        && match *phase {
+            [0 | 1, ref rest @ ..] => zeros(rest),
+            [2, bit, ref rest @ ..] => bit < 8 && zeros(rest),
+            [3, byte, left, _, ref rest @ ..] => byte < 8 && is_byte(left) && zeros(rest),
+            [4 | 5, ref rest @ ..] => sound && zeros(rest),
+            [6, 13..=15, ref rest @ ..] => zeros(rest),
+            _ => false,
+        }
 }
 
 fn is_page_state(state: &[u8]) -> bool {
-    let Some(f) = front(state) else {
-        return false;
-    };
-    if f.page > 63 || f.other > 63 || (f.first, f.third) != (0, 0) {
-        return false;
-    }
-    let bare = (f.what, f.which, f.value) == (0, 0, 0) && f.second == 0;
-    match f.kind {
-        0 | 1 | 4 | 5 => bare && f.count == 0,
-        2 => bare && f.count < 32,
-        3 => {
-            let byte = (1..=8).contains(&f.count);
-            let crc = (1..=16).contains(&f.count);
-            f.which == 0
-                && match f.what {
-                    0 => byte && f.value == 0,
-                    1 => crc,
-                    2 => byte && f.value < 32,
-                    3 => crc && f.value == 0,
-                    _ => false,
-                }
+    let (phase, fields) = state[..16].split_at(8);
+    let placed = fields[0] < 64 && fields[1] < 64 && zeros(&fields[2..]);
+    placed
+        && match *phase {
+            [0 | 1 | 4 | 5, ref rest @ ..] => zeros(rest),
+            [2, bit, ref rest @ ..] => bit < 32 && zeros(rest),
+            [3, left, _, _, 0, ref rest @ ..] => is_byte(left) && zeros(rest),
+            [3, left, _, _, 1, _, ref rest @ ..] => is_crc(left) && zeros(rest),
+            [3, left, _, _, 2, k, ref rest @ ..] => is_byte(left) && k < 32 && zeros(rest),
+            [3, left, _, _, 3, ref rest @ ..] => is_crc(left) && zeros(rest),
+            [6, 3 | 4 | 6 | 13, ref rest @ ..] => zeros(rest),
+            [6, 5, k, ref rest @ ..] => k > 63 && zeros(rest),
+            _ => false,
         }
-        6 => {
-            (f.what, f.count, f.second) == (0, 0, 0)
-                && match f.which {
-                    3 | 4 | 6 | 13 => f.value == 0,
-                    5 => f.value > 63,
-                    _ => false,
-                }
-        }
-        _ => false,
-    }
 }
 
 fn is_publisher_state(state: &[u8]) -> bool {
-    let Some(f) = front(state) else {
+    let (stage, fields) = state[..16].split_at(8);
+    let Some(&mode) = MODES.iter().find(|&&mode| mode_number(mode) == fields[3]) else {
         return false;
     };
-    let Some(&mode) = MODES.iter().find(|&&mode| mode_number(mode) == f.second) else {
-        return false;
-    };
-    if f.page > 63 || f.other > 63 || f.third != 0 {
-        return false;
-    }
-    match f.kind {
-        0 => (f.which, f.value) == (0, 0) && f.what < 2 && usize::from(f.first) <= all_events(mode),
-        1 => (f.what, f.which, f.value, f.first) == (0, 0, 0, 0),
-        2 => {
-            (f.what, f.first) == (0, 0)
-                && match f.which {
-                    1 | 3 | 4 | 7 | 8 | 10 | 13 => f.value == 0,
-                    6 => f.value == 0 && mode == WriteMode::Ordinary,
-                    5 => f.value > 63,
-                    9 | 20 => f.value < 64,
-                    _ => false,
-                }
+    let placed = fields[0] < 64 && fields[1] < 64 && zeros(&fields[4..]);
+    placed
+        && match *stage {
+            [0, low, high, 0 | 1, ref rest @ ..] => {
+                let told = u16::from_le_bytes([low, high]);
+                usize::from(told) <= all_events(mode) && zeros(rest)
+            }
+            [1, ref rest @ ..] => zeros(rest),
+            [2, 1 | 3 | 4 | 7 | 8 | 10 | 13, ref rest @ ..] => zeros(rest),
+            [2, 6, ref rest @ ..] => mode == WriteMode::Ordinary && zeros(rest),
+            [2, 5, k, ref rest @ ..] => k > 63 && zeros(rest),
+            [2, 9 | 20, page, ref rest @ ..] => page < 64 && zeros(rest),
+            _ => false,
         }
-        _ => false,
-    }
 }
 
 /// A machine with its state in bytes.
@@ -371,10 +333,9 @@ fn assert_made_up(g: &mut Generator, machine: &Machine, length: usize) {
                 0 => g.below(8) as u8,
                 16.. => g.byte(),
                 _ if !g.once_in(sparse) => 0,
-                1 => g.below(11) as u8,
-                3 => g.below(22) as u8,
-                8 => g.below(9) as u8,
-                9 if g.bit() => g.below(3) as u8,
+                1 => g.below(22) as u8,
+                4..7 => g.below(11) as u8,
+                7 | 8 | 11 if g.bit() => g.below(3) as u8,
                 _ if g.once_in(2) => g.below(18) as u8,
                 _ => g.byte(),
             };
@@ -482,13 +443,8 @@ fn stopped_states_of_reading_masters() {
     let page: [u8; 32] = g.bytes();
     for which in 0..=255 {
         for value in 0..=255 {
-            let stop = Front {
-                kind: 6,
-                which,
-                value,
-                ..Front::default()
-            };
-            let mut state: [u8; 24] = packed(stop, &number);
+            let stop = [6, which, value];
+            let mut state = number_state(&stop, &number);
             let expected = match (which, value) {
                 (13..=15, 0) => which,
                 _ => 2,
@@ -496,7 +452,7 @@ fn stopped_states_of_reading_masters() {
             let code = (NUMBER.step)(&mut g, &mut state);
             assert_eq!(code, u32::from(expected), "{which} {value}");
 
-            let mut state: [u8; 48] = packed(stop, &page);
+            let mut state = page_state(&stop, [0, 0], &page);
             let expected = match (which, value) {
                 (3 | 4 | 6 | 13, 0) | (5, 64..) => which,
                 _ => 2,
@@ -513,8 +469,8 @@ fn stopped_states_of_reading_masters() {
 fn quick_chip_states() {
     let mut g = Generator::new(605);
     let number: [u8; 8] = g.bytes();
-    let judge = |front: Front, accepted: bool| {
-        let state: [u8; 24] = packed(front, &number);
+    let judge = |stage: &[u8], accepted: bool| {
+        let state = chip_state(stage, &number);
         let mut after = state;
         let mut image = mark(2368);
         let code = calls::chip_events(&mut after, &[], &mut image, &mut []);
@@ -525,95 +481,60 @@ fn quick_chip_states() {
     };
     for command in 3..10 {
         for count in 0..9 {
-            for what in [1, 2] {
-                let front = Front {
-                    kind: 3,
-                    what,
-                    count,
-                    which: command,
-                    value: if what == 2 { g.byte() } else { 0 },
-                    other: g.byte(),
-                    third: g.below(0x1_0000) as u16,
-                    ..Front::default()
-                };
-                judge(front, command < 7 && count < 8);
-            }
+            let [register, low, crc_low, crc_high] = g.bytes();
+            let shift = [3, count, register, crc_low, crc_high];
+            let accepted = command < 7 && count < 8;
+            judge(&[&shift[..], &[1, command]].concat(), accepted);
+            judge(&[&shift[..], &[2, command, low]].concat(), accepted);
         }
     }
-    for (which, limit) in [(2, 0x800), (3, 0x140), (4, 0), (255, 0)] {
-        for first in 0..=limit {
-            let address = Front {
-                which,
-                first,
-                ..Front::default()
-            };
-            let inside = first < limit;
+    let faulty = [(1, 2), (2, 0), (2, 1), (255, 0)].map(|(mode, memory)| (mode, memory, 0));
+    for (mode, memory, limit) in [(1, 0, 0x800), (1, 1, 0x140)].into_iter().chain(faulty) {
+        for address in 0..=limit {
+            let [low, high] = u16::to_le_bytes(address);
+            let target = [memory, low, high];
+            let inside = address < limit;
             for count in 0..=9 {
+                let [register, x, crc_low, crc_high] = g.bytes();
                 // A byte comes in; it is read back.
-                let incoming = Front {
-                    kind: 3,
-                    what: 3,
-                    count,
-                    other: g.byte(),
-                    third: g.below(0x1_0000) as u16,
-                    ..address
-                };
-                judge(incoming, inside && count < 8);
-                let read_back = Front {
-                    kind: 4,
-                    what: 9,
-                    count,
-                    second: g.below(0x1_0000) as u16,
-                    third: g.below(0x1_0000) as u16,
-                    ..address
-                };
-                judge(read_back, inside && (1..=8).contains(&count));
-                // No CRC goes before its pulse.
-                let crc = Front {
-                    what: 8,
-                    value: g.byte(),
-                    ..read_back
-                };
-                judge(crc, false);
+                let incoming = [3, count, register, crc_low, crc_high, 3, mode];
+                judge(&[&incoming[..], &target].concat(), inside && count < 8);
+                let read_back = [4, count, register, x, crc_low, crc_high, 9, mode];
+                judge(
+                    &[&read_back[..], &target].concat(),
+                    inside && is_byte(count),
+                );
             }
-            let armed = Front {
-                kind: 5,
-                value: g.byte(),
-                ..address
-            };
-            judge(armed, inside);
+            judge(&[&[5, g.byte(), mode][..], &target].concat(), inside);
         }
     }
 }
 
-/// Events, and the state of the chip before each.
+/// Events, and the stage of the chip before each.
 #[derive(Default)]
 struct Traced {
     events: Vec<Event>,
-    states: Vec<Front>,
+    stages: Vec<Vec<u8>>,
 }
 
 impl Traced {
-    fn byte_in(&mut self, byte: u8, front: Front) {
-        let mut other = 0;
+    fn byte_in(&mut self, byte: u8, crc: u16, incoming: &[u8]) {
+        let [low, high] = crc.to_le_bytes();
+        let mut register = 0;
         for (count, bit) in (0..).zip(bits_of_byte(byte)) {
-            self.states.push(Front {
-                count,
-                other,
-                ..front
-            });
+            let shift = [3, count, register, low, high];
+            self.stages.push([&shift[..], incoming].concat());
             self.events.push(Event::Slot(bit));
-            other = other >> 1 | u8::from(bit) << 7;
+            register = register >> 1 | u8::from(bit) << 7;
         }
     }
 
-    fn bits_out(&mut self, bits: u16, count: u8, front: Front) {
+    fn bits_out(&mut self, bits: u16, count: u8, crc: u16, outgoing: &[u8]) {
+        let [low, high] = crc.to_le_bytes();
         for sent in 0..count {
-            self.states.push(Front {
-                count: count - sent,
-                second: bits >> sent,
-                ..front
-            });
+            let [next, after] = (bits >> sent).to_le_bytes();
+            let shift = [4, count - sent, next, after, low, high];
+            self.stages.push([&shift[..], outgoing].concat());
             self.events.push(Event::Slot(true));
         }
     }
@@ -625,57 +546,31 @@ fn traced_write(mode: WriteMode, memory: u8, address: u16, bytes: &[u8]) -> Trac
     let mut traced = Traced::default();
     let command = write_commands(mode)[usize::from(memory)];
     let [low, high] = address.to_le_bytes();
-    let target = memory + 2 * mode_number(mode) as u8;
-    let incoming = |what, which, value, crc| Front {
-        kind: 3,
-        what,
-        which,
-        value,
-        third: crc,
-        ..Front::default()
-    };
-    traced.byte_in(command, incoming(0, 0, 0, 0));
-    traced.byte_in(low, incoming(1, 3 + target, 0, crc16(&[command])));
-    let crc = crc16(&[command, low]);
-    traced.byte_in(high, incoming(2, 3 + target, low, crc));
+    let number = 3 + memory + 2 * mode_number(mode);
+    let mode_byte = mode_number(mode);
+    traced.byte_in(command, 0, &[0]);
+    traced.byte_in(low, crc16(&[command]), &[1, number]);
+    traced.byte_in(high, crc16(&[command, low]), &[2, number, low]);
     let mut crc = Crc16::cleared();
     crc.take_bytes(&[command, low, high]);
-    for (first, &byte) in (address..).zip(bytes) {
-        if first > address {
-            crc = Crc16::loaded(first);
+    for (place, &byte) in (address..).zip(bytes) {
+        if place > address {
+            crc = Crc16::loaded(place);
         }
-        let data = Front {
-            first,
-            ..incoming(3, target, 0, crc.number())
-        };
-        traced.byte_in(byte, data);
-        let armed = Front {
-            kind: 5,
-            which: target,
-            value: byte,
-            first,
-            ..Front::default()
-        };
+        let [low, high] = place.to_le_bytes();
+        let incoming = [3, mode_byte, memory, low, high];
+        traced.byte_in(byte, crc.number(), &incoming);
         if mode == WriteMode::Ordinary {
             crc.take_byte(byte);
-            let sent = Front {
-                kind: 4,
-                what: 8,
-                third: crc.number(),
-                ..armed
-            };
-            traced.bits_out(!crc.number(), 16, sent);
+            let sent = [8, byte, memory, low, high];
+            traced.bits_out(!crc.number(), 16, crc.number(), &sent);
         }
-        traced.states.push(armed);
+        traced
+            .stages
+            .push(vec![5, byte, mode_byte, memory, low, high]);
         traced.events.push(Event::Pulse);
-        let back = Front {
-            kind: 4,
-            what: 9,
-            value: 0,
-            third: crc16(&[byte]),
-            ..armed
-        };
-        traced.bits_out(u16::from(byte), 8, back);
+        let back = [9, mode_byte, memory, low, high];
+        traced.bits_out(u16::from(byte), 8, crc16(&[byte]), &back);
     }
     traced
 }
@@ -696,8 +591,8 @@ fn every_chip_state_of_a_write() {
             let mut before = vec![Event::Reset];
             before.extend(bits_of_byte(0xCC).map(Event::Slot));
             chip.events(&before, &mut image).unwrap();
-            for (&event, &front) in traced.events.iter().zip(&traced.states) {
-                assert_eq!(*chip.bytes(), packed::<24>(front, &number), "{mode:?}");
+            for (&event, stage) in traced.events.iter().zip(&traced.stages) {
+                assert_eq!(*chip.bytes(), chip_state(stage, &number), "{mode:?}");
                 chip.event(event, &mut image).unwrap();
             }
         }
@@ -721,15 +616,10 @@ fn armed_chips() {
                 Target::Data(address) => (0, address.number()),
                 Target::Status(address) => (1, address.number()),
             };
-            let front = Front {
-                kind: 5,
-                which: memory + 2 * mode_number(mode) as u8,
-                first,
-                value: byte,
-                ..Front::default()
-            };
+            let [low, high] = first.to_le_bytes();
+            let armed = [5, byte, mode_number(mode), memory, low, high];
             let number: [u8; 8] = g.bytes();
-            let mut chip = Chip::of_bytes(packed(front, &number));
+            let mut chip = Chip::of_bytes(chip_state(&armed, &number));
             let mut model = ModelChip::power_up(number, before.clone()).unwrap();
             model.stage = Stage::Armed {
                 mode: mode_of_model(mode),
@@ -789,37 +679,14 @@ fn every_publisher_state_of_an_update() {
         let pages = model.pages();
         let plan = model.planned_events();
         assert_eq!(plan.len(), all_events(mode));
-        let placed = Front {
-            page: pages.l,
-            other: pages.t,
-            count: image[status(0x040 + usize::from(pages.t) / 8)],
-            second: mode_number(mode),
-            ..Front::default()
+        let used = image[status(0x040 + usize::from(pages.t) / 8)];
+        let fields = [pages.l, pages.t, used, mode_number(mode)];
+        let running = |told: usize, good: bool| {
+            let [low, high] = (told as u16).to_le_bytes();
+            publisher_state(&[0, low, high, u8::from(good)], fields, &new)
         };
-        let running = |first: usize, good: bool| -> [u8; 48] {
-            let first = first as u16;
-            let what = u8::from(good);
-            packed(
-                Front {
-                    what,
-                    first,
-                    ..placed
-                },
-                &new,
-            )
-        };
-        let stopped = |refusal: u32| -> [u8; 48] {
-            let which = refusal as u8;
-            packed(
-                Front {
-                    kind: 2,
-                    which,
-                    ..placed
-                },
-                &new,
-            )
-        };
-        let done: [u8; 48] = packed(Front { kind: 1, ..placed }, &new);
+        let stopped = |refusal: u32| publisher_state(&[2, refusal as u8], fields, &new);
+        let done = publisher_state(&[1], fields, &new);
 
         let mut chip = ModelChip::power_up([0; 8], image.clone()).unwrap();
         let mut publisher = Publisher::start(&image, &new, page, mode).unwrap();
@@ -871,14 +738,8 @@ fn every_publisher_state_of_an_update() {
 fn modes_of_publisher_states() {
     let mut g = Generator::new(608);
     let new: [u8; 32] = g.bytes();
-    let place = Front {
-        count: 0xFF,
-        page: 5,
-        other: 9,
-        ..Front::default()
-    };
-    let mut code = |front: Front| {
-        let mut state = packed::<48>(front, &new);
+    let mut code = |mode: u8, stage: &[u8]| {
+        let mut state = publisher_state(stage, [5, 9, 0xFF, mode], &new);
         let accepted = is_publisher_state(&state);
         let code = (PUBLISHER.step)(&mut g, &mut state);
         assert_eq!(accepted, code != 2, "{state:?}");
@@ -886,68 +747,36 @@ fn modes_of_publisher_states() {
     };
     for mode in MODES {
         let all = all_events(mode) as u16;
-        let second = mode_number(mode);
-        let place = Front { second, ..place };
-        for first in (0..=all + 300).chain([u16::MAX]) {
-            let running = Front { first, ..place };
+        let number = mode_number(mode);
+        for told in (0..=all + 300).chain([u16::MAX]) {
+            let [low, high] = told.to_le_bytes();
             // Only the last reply of a CRC or byte and a reset stop a running
             // state whose bits have agreed so far.
-            let told = code(Front { what: 1, ..running });
-            assert_eq!(told == 2, first > all, "{mode:?}, {first}");
-            assert!([0, 2, 7, 13].contains(&told) || (second, told) == (0, 6));
+            let answered = code(number, &[0, low, high, 1]);
+            assert_eq!(answered == 2, told > all, "{mode:?}, {told}");
+            assert!([0, 2, 7, 13].contains(&answered) || (number, answered) == (0, 6));
         }
-        assert_eq!(code(Front { kind: 1, ..place }), 0);
+        assert_eq!(code(number, &[1]), 0);
         for which in 0..=255 {
-            let stop = Front {
-                kind: 2,
-                which,
-                ..place
-            };
             let expected = match which {
                 1 | 3 | 4 | 7 | 8 | 9 | 10 | 13 | 20 => u32::from(which),
                 6 if mode == WriteMode::Ordinary => 6,
                 _ => 2,
             };
-            assert_eq!(code(stop), expected, "{mode:?}, {which}");
-            let outside = Front {
-                which: 5,
-                value: which,
-                ..stop
-            };
-            assert_eq!(code(outside), if which > 63 { 5 } else { 2 });
+            assert_eq!(code(number, &[2, which]), expected, "{mode:?}, {which}");
+            let outside = code(number, &[2, 5, which]);
+            assert_eq!(outside, if which > 63 { 5 } else { 2 });
             for protection in [9, 20] {
-                let protected = Front {
-                    which: protection,
-                    value: which,
-                    ..stop
-                };
                 let expected = if which > 63 { 2 } else { protection };
-                assert_eq!(code(protected), u32::from(expected));
+                let protected = code(number, &[2, protection, which]);
+                assert_eq!(protected, u32::from(expected));
             }
         }
-        for other in (2..=u16::MAX).filter(|&other| other < 1000 || other % 37 == 0) {
-            for front in [
-                Front { what: 1, ..place },
-                Front {
-                    first: 100,
-                    ..place
-                },
-                Front { kind: 1, ..place },
-                Front {
-                    kind: 2,
-                    which: 7,
-                    ..place
-                },
-            ] {
-                assert_ne!(code(front), 2);
-                assert_eq!(
-                    code(Front {
-                        second: other,
-                        ..front
-                    }),
-                    2,
-                    "mode {other}"
-                );
+        let stages: [&[u8]; 4] = [&[0, 0, 0, 1], &[0, 100, 0, 0], &[1], &[2, 7]];
+        for stage in stages {
+            assert_ne!(code(number, stage), 2);
+            for other in 2..=255 {
+                assert_eq!(code(other, stage), 2, "mode {other}");
             }
         }
     }

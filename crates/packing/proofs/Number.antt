@@ -1,49 +1,44 @@
 -- The number read's state and its bytes.
-use Prim.Native.Nat.{ℕ, _+_}
-use mathlib.Core.Path.{_≡_, refl, ap, _∙_}
-use mathlib.Core.Bool.{true}
-use mathlib.Core.List.{List}
-use lib.ListN.{length}
+use Prim.Native.Nat.{ℕ}
+use mathlib.Core.Path.{_≡_, refl, ap}
+use mathlib.Core.Bool.{_&&_}
+use mathlib.Core.List.{List, [], _++_}
+use native.Mathlib.Omega.{arith}
+use lib.ListN.{length, replicate}
 use Rattle.number_read.specs.declared.Phase.{Phase}
 use Rattle.number_read.specs.declared.Phase.the-variants.{Begin, Presence, Command, Receive, Closing, Done as Ended, Stopped}
 use Rattle.number_read.specs.declared.NumberRead.{NumberRead}
-use Rattle.packing.specs.Front.{laid, frontAt, bytesFront, stopFront}
-use Rattle.packing.specs.Number.{phaseFront, frontPhase, numberBytes, numberReadOf, isNumberState, NumberPacking}
-use Rattle.packing.proofs.Bytes.{whole-front, whole-rest, whole-length, copy-self, copy-equal, fits-back}
-use Rattle.packing.proofs.Refusals.{refusal-back}
+use Rattle.packing.specs.Bytes.{padded, same, restAt}
+use Rattle.packing.specs.Number.{phaseBytes, phaseOf, phaseFound, numberAt, numberNone, numberBytes, numberReadOf, isNumberState, NumberPacking}
+use Rattle.packing.proofs.Laws.{refusal-back, Laws, laws}
 
-phase-back : (p : Phase) → frontPhase (phaseFront p) ≡ p
-unfolding phaseFront frontPhase bytesFront stopFront
-phase-back Begin = refl
-phase-back Presence = refl
-phase-back (Command i) = refl
-phase-back (Receive k left register) = refl
-phase-back Closing = refl
-phase-back Ended = refl
-phase-back (Stopped r) = ap Stopped (refusal-back r)
+phase-back : (p : Phase) (fields rest : List ℕ) → phaseOf ((padded 8 (phaseBytes p) ++ fields) ++ rest) ≡ p
+unfolding phaseBytes phaseOf
+phase-back Begin fields rest = refl
+phase-back Presence fields rest = refl
+phase-back (Command i) fields rest = refl
+phase-back (Receive k left register) fields rest = refl
+phase-back Closing fields rest = refl
+phase-back Ended fields rest = refl
+phase-back (Stopped r) fields rest = ap Stopped (refusal-back r)
 
--- of a front that its bytes hold, and of eight bytes
-pub number-back : (s : NumberRead) → frontAt (laid (phaseFront (s .phase))) ≡ phaseFront (s .phase) → length (s .bytes) ≡ 8 → numberReadOf (numberBytes s) ≡ s
-unfolding numberBytes numberReadOf
-number-back s e len = simp (whole-front (phaseFront (s .phase)) (s .bytes) e, whole-rest 8 (phaseFront (s .phase)) (s .bytes) len, phase-back (s .phase))
+-- ---- states
 
-number-length : (s : NumberRead) → length (s .bytes) ≡ 8 → length (numberBytes s) ≡ 24
+number : Laws 8 8 (λ s. phaseBytes (s .phase)) (λ s. []) (λ s. s .bytes) (λ b. numberAt b (phaseOf b)) numberNone
 unfolding numberBytes
-number-length s len = whole-length (phaseFront (s .phase)) (s .bytes) ∙ ap (λ (k : ℕ). 16 + k) len
+number = laws _ _ _ _ _ _ _ (omega arith) (λ b. refl) refl back
+  where
+    back : (s : NumberRead) → restAt 8 (numberBytes s) ≡ s .bytes → numberAt (numberBytes s) (phaseOf (numberBytes s)) ≡ s
+    back s rest = simp (phase-back (s .phase) (padded 8 []) (s .bytes), rest)
 
-pub number-kept : (s : NumberRead) → frontAt (laid (phaseFront (s .phase))) ≡ phaseFront (s .phase) → length (s .bytes) ≡ 8 → isNumberState (numberBytes s) ≡ true
-unfolding isNumberState
-number-kept s e len = rw (number-back s e len) (copy-self 24 (numberBytes s) (number-length s len))
+pub number-held : (b : List ℕ) → length b ≡ 24 → numberReadOf b ≡ numberAt b (phaseOf b)
+unfolding numberReadOf
+number-held b e = number .held b e
 
-bytes-back : (b : List ℕ) → isNumberState b ≡ true → numberBytes (numberReadOf b) ≡ b
-unfolding isNumberState
-bytes-back b e = copy-equal 24 (numberBytes (numberReadOf b)) b e
+pub number-judged : (b : List ℕ) → length b ≡ 24 → isNumberState b ≡ (phaseFound b .0 && same 8 (replicate 8 0) b)
+unfolding isNumberState phaseFound numberReadOf numberBytes
+number-judged b e = number .judged b e
 
 pub number-packing : NumberPacking
-number-packing =
-    record {
-      phase-back = phase-back;
-      bytes-back = bytes-back;
-      state-back = λ s f len. number-back s (fits-back (phaseFront (s .phase)) f) len;
-      state-kept = λ s f len. number-kept s (fits-back (phaseFront (s .phase)) f) len;
-    }
+unfolding numberBytes numberReadOf isNumberState
+number-packing = number .inverse

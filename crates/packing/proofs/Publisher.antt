@@ -1,60 +1,47 @@
 -- The publisher's state and its bytes.
-use Prim.Native.Nat.{ℕ, _+_}
-use mathlib.Core.Path.{_≡_, refl, ap, ap₂, _∙_}
-use mathlib.Core.Bool.{true, false}
-use mathlib.Core.List.{List}
-use lib.ListN.{length}
-use Rattle.terms.specs.declared.write_mode.WriteMode.{WriteMode}
-use Rattle.terms.specs.declared.write_mode.WriteMode.the-variants.{Ordinary, Quick}
+use Prim.Native.Nat.{ℕ}
+use mathlib.Core.Path.{_≡_, refl, ap, _∙_}
+use mathlib.Core.Bool.{true, false, _&&_}
+use mathlib.Core.List.{List, [], _∷_, _++_}
+use native.Mathlib.Omega.{arith}
+use lib.Dec.{ltb}
+use lib.ListN.{length, getD, replicate}
 use Rattle.publisher.specs.declared.Stage.{Stage}
 use Rattle.publisher.specs.declared.Stage.the-variants.{Running, Done as Ended, Stopped}
 use Rattle.publisher.specs.declared.Publisher.{Publisher}
-use Rattle.packing.specs.Front.{laid, frontAt, bytesFront, modeNumber, modeOf, stopFront}
-use Rattle.packing.specs.Publisher.{runningFront, stageFront, frontStage, placed, publisherFront, publisherWith, publisherBytes, publisherOf, isPublisherState, PublisherPacking}
-use Rattle.packing.proofs.Bytes.{whole-front, whole-rest, whole-length, copy-self, copy-equal, fits-back}
-use Rattle.packing.proofs.Refusals.{refusal-back}
+use Rattle.packing.specs.Bytes.{padded, same, restAt, modeByte}
+use Rattle.packing.specs.Publisher.{stageBytes, stageOf, stageFound, publisherAt, publisherNone, publisherBytes, publisherOf, isPublisherState, PublisherPacking}
+use Rattle.packing.proofs.Laws.{field, same-own, same-one, mode-good, mode-back, halves, refusal-back, Laws, laws}
 
-stage-back : (s : Stage) → frontStage (stageFront s) ≡ s
-unfolding stageFront frontStage runningFront bytesFront stopFront
-stage-back (Running k true) = refl
-stage-back (Running k false) = refl
-stage-back Ended = refl
-stage-back (Stopped r) = ap Stopped (refusal-back r)
+stage-back : (p : Stage) (fields rest : List ℕ) → stageOf ((padded 8 (stageBytes p) ++ fields) ++ rest) ≡ p
+unfolding stageBytes stageOf
+stage-back (Running k true) fields rest = rw halves
+stage-back (Running k false) fields rest = rw halves
+stage-back Ended fields rest = refl
+stage-back (Stopped r) fields rest = ap Stopped (refusal-back r)
 
-mode-back : (mode : WriteMode) → modeOf (modeNumber mode) ≡ mode
-unfolding modeNumber modeOf
-mode-back Ordinary = refl
-mode-back Quick = refl
+-- ---- states
 
-front-back : (s : Publisher) → publisherWith (publisherFront s) (s .new) ≡ s
-unfolding publisherWith publisherFront placed frontStage
-front-back s =
-    ap₂ (λ (m : WriteMode) (x : Stage). record { mode = m; stage = x; last = s .last; target = s .target; used = s .used; new = s .new })
-    (mode-back (s .mode)) (stage-back (s .stage))
+abbrev fields : Publisher → List ℕ
+fields s = s .last .0 ∷ s .target .0 ∷ s .used ∷ modeByte (s .mode) ∷ []
 
--- of a front that its bytes hold, and of 32 bytes
-pub publisher-back : (s : Publisher) → frontAt (laid (publisherFront s)) ≡ publisherFront s → length (s .new) ≡ 32 → publisherOf (publisherBytes s) ≡ s
-unfolding publisherBytes publisherOf
-publisher-back s e len = simp (whole-front (publisherFront s) (s .new) e, whole-rest 32 (publisherFront s) (s .new) len, front-back s)
-
-publisher-length : (s : Publisher) → length (s .new) ≡ 32 → length (publisherBytes s) ≡ 48
+publisher : Laws 32 8 (λ s. stageBytes (s .stage)) fields (λ s. s .new) (λ b. publisherAt b (stageOf b)) publisherNone
 unfolding publisherBytes
-publisher-length s len = whole-length (publisherFront s) (s .new) ∙ ap (λ (k : ℕ). 16 + k) len
+publisher = laws _ _ _ _ _ _ _ (omega arith) (λ b. refl) refl back
+  where
+    back : (s : Publisher) → restAt 32 (publisherBytes s) ≡ s .new → publisherAt (publisherBytes s) (stageOf (publisherBytes s)) ≡ s
+    back s rest =
+        let enum = stageBytes (s .stage) in
+        simp (stage-back (s .stage), mode-back (s .mode), field 8 0 enum, field 8 1 enum, field 8 2 enum, field 8 3 enum, rest)
 
-pub publisher-kept : (s : Publisher) → frontAt (laid (publisherFront s)) ≡ publisherFront s → length (s .new) ≡ 32 → isPublisherState (publisherBytes s) ≡ true
-unfolding isPublisherState
-publisher-kept s e len = rw (publisher-back s e len) (copy-self 48 (publisherBytes s) (publisher-length s len))
+pub publisher-held : (b : List ℕ) → length b ≡ 48 → publisherOf b ≡ publisherAt b (stageOf b)
+unfolding publisherOf
+publisher-held b e = publisher .held b e
 
-bytes-back : (b : List ℕ) → isPublisherState b ≡ true → publisherBytes (publisherOf b) ≡ b
-unfolding isPublisherState
-bytes-back b e = copy-equal 48 (publisherBytes (publisherOf b)) b e
+pub publisher-judged : (b : List ℕ) → length b ≡ 48 → isPublisherState b ≡ (stageFound b .0 && (ltb (getD b 11 0) 2 && same 12 (replicate 4 0) b))
+unfolding isPublisherState stageFound publisherOf publisherBytes
+publisher-judged b e = publisher .judged b e ∙ rw (same-own b 8, same-own b 9, same-own b 10, same-one b 11, mode-good (getD b 11 0))
 
 pub publisher-packing : PublisherPacking
-publisher-packing =
-    record {
-      stage-back = stage-back;
-      front-back = front-back;
-      bytes-back = bytes-back;
-      state-back = λ s f len. publisher-back s (fits-back (publisherFront s) f) len;
-      state-kept = λ s f len. publisher-kept s (fits-back (publisherFront s) f) len;
-    }
+unfolding publisherBytes publisherOf isPublisherState
+publisher-packing = publisher .inverse

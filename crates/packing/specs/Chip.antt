@@ -1,11 +1,10 @@
--- The chip's state as 24 bytes: the front, and the registration number.
-use Prim.Native.Nat.{ℕ, _+_, _/_, _%_, _<_}
-use mathlib.Core.Path.{_≡_}
-use mathlib.Core.Bool.{Bool, true, cond}
-use mathlib.Core.List.{List, _++_}
+-- The chip's state as 24 bytes: the stage in twelve bytes, four zero bytes, and the registration number.
+use Prim.Native.Nat.{ℕ}
+use mathlib.Core.Bool.{Bool, cond}
+use mathlib.Core.List.{List, [], _∷_, _++_}
 use lib.Dec.{eqb}
-use lib.ListN.{length}
-use Rattle.terms.specs.Told.{Told, accepted, judge, Done, done}
+use lib.ListN.{length, getD, replicate}
+use Rattle.terms.specs.Told.{Told, Done}
 use Rattle.terms.specs.declared.address.Space.{Space}
 use Rattle.terms.specs.declared.address.Space.the-variants.{Data as DataSpace, Status as StatusSpace}
 use Rattle.terms.specs.declared.address.Target.{Target}
@@ -21,37 +20,86 @@ use Rattle.memory_stage.specs.declared.stage.Command.the-variants.{ReadMemory, 
 use Rattle.memory_stage.specs.declared.stage.Incoming.{Incoming}
 use Rattle.memory_stage.specs.declared.stage.Incoming.the-variants.{Command as CommandByte, AddressLow, AddressHigh, Data as DataByte}
 use Rattle.memory_stage.specs.declared.stage.Outgoing.{Outgoing}
-use Rattle.memory_stage.specs.declared.stage.Outgoing.the-variants.{MemoryData, MemoryCrc, StatusData, StatusCrc, RedirectionByte, RedirectionCrc, PageData, PageCrc, WriteCrc, ReadBack}
+use Rattle.memory_stage.specs.declared.stage.Outgoing.the-variants.{MemoryData, MemoryCrc, StatusData, StatusCrc, RedirectionByte, RedirectionCrc}
+use Rattle.memory_stage.specs.declared.stage.Outgoing.the-variants.{PageData, PageCrc, WriteCrc, ReadBack}
 use Rattle.memory_stage.specs.declared.stage.MemoryStage.{MemoryStage}
 use Rattle.memory_stage.specs.declared.stage.MemoryStage.the-variants.{Silent, Receive, Send, Armed}
 use Rattle.chip.specs.declared.event.Stage.{Stage}
 use Rattle.chip.specs.declared.event.Stage.the-variants.{Rom, Memory}
 use Rattle.chip.specs.declared.event.State.{State}
-use Rattle.packing.specs.declared.front.Front.{Front}
-use Rattle.packing.specs.declared.chip_state.Content.{Content}
-use Rattle.packing.specs.Front.{laid, frontAt, bytesFront, modeOf, Fits, restAt, isCopy, bufferTold, bufferAfter}
+use Rattle.packing.specs.declared.chip_state.IncomingFound.{IncomingFound}
+use Rattle.packing.specs.declared.chip_state.OutgoingFound.{OutgoingFound}
+use Rattle.packing.specs.declared.chip_state.StageFound.{StageFound}
+use Rattle.packing.specs.Bytes.{word, joined, padded, front, same, restAt, isCopy, Inverse, judgedBy, bufferTold, bufferAfter, modeByte, modeOf}
 
--- The front, by kind. 0: silent. 1: a ROM command comes in; so many of its bits are in (count), in a register (value). 2: at a bit of
--- the number (count), at a step (what). 3: a byte comes in (what: 0 a command, 1 and 2 the address bytes of a command, 3 data for a
--- target); so many of its bits are in (count), in a register (other); the CRC (third). 4: something is sent (what: 0 to 9 in the order
--- of `Outgoing`); so many bits are left (count), and these bits (second); the CRC (third). 5: armed with a byte (value) for a target.
--- A command is a number (which), a target a memory and a mode (which: 0 data, 1 status, and in the quick mode 2 data, 3 status) and an
--- address (first), a low address byte or a byte to write stands in value.
+-- ---- the layout
 
--- ---- commands
+unfoldable pub writeByte : WriteMode → Space → ℕ
+writeByte Ordinary DataSpace = 3
+writeByte Ordinary StatusSpace = 4
+writeByte Quick DataSpace = 5
+writeByte Quick StatusSpace = 6
 
--- a memory and a mode in which it is written
-unfoldable pub writeNumber : WriteMode → Space → ℕ
-writeNumber Ordinary DataSpace = 0
-writeNumber Ordinary StatusSpace = 1
-writeNumber Quick DataSpace = 2
-writeNumber Quick StatusSpace = 3
+unfoldable pub commandByte : Command → ℕ
+commandByte ReadMemory = 0
+commandByte ReadStatus = 1
+commandByte ExtendedRead = 2
+commandByte (Write mode space) = writeByte mode space
 
-unfoldable pub commandNumber : Command → ℕ
-commandNumber ReadMemory = 0
-commandNumber ReadStatus = 1
-commandNumber ExtendedRead = 2
-commandNumber (Write mode space) = 3 + writeNumber mode space
+unfoldable pub stepByte : RomStep → ℕ
+stepByte Read = 0
+stepByte Match = 1
+stepByte SearchBit = 2
+stepByte SearchComplement = 3
+stepByte SearchTake = 4
+
+unfoldable pub targetByte : Target → ℕ
+targetByte (Data a) = 0
+targetByte (Status a) = 1
+
+unfoldable pub targetAddress : Target → ℕ
+targetAddress (Data a) = a .0
+targetAddress (Status a) = a .0
+
+abbrev pub targetBytes : Target → List ℕ
+targetBytes t = targetByte t ∷ word (targetAddress t)
+
+unfoldable pub incomingBytes : Incoming → List ℕ
+incomingBytes CommandByte = 0 ∷ []
+incomingBytes (AddressLow command) = 1 ∷ commandByte command ∷ []
+incomingBytes (AddressHigh command low) = 2 ∷ commandByte command ∷ low ∷ []
+incomingBytes (DataByte mode target) = 3 ∷ modeByte mode ∷ targetBytes target
+
+unfoldable pub outgoingBytes : Outgoing → List ℕ
+outgoingBytes (MemoryData a) = 0 ∷ word (a .0)
+outgoingBytes MemoryCrc = 1 ∷ []
+outgoingBytes (StatusData a) = 2 ∷ word (a .0)
+outgoingBytes (StatusCrc a) = 3 ∷ word (a .0)
+outgoingBytes (RedirectionByte a) = 4 ∷ word (a .0)
+outgoingBytes (RedirectionCrc a) = 5 ∷ word (a .0)
+outgoingBytes (PageData a) = 6 ∷ word (a .0)
+outgoingBytes (PageCrc a) = 7 ∷ word (a .0)
+outgoingBytes (WriteCrc target byte) = 8 ∷ byte ∷ targetBytes target
+outgoingBytes (ReadBack mode target) = 9 ∷ modeByte mode ∷ targetBytes target
+
+unfoldable pub romBytes : RomStage → List ℕ
+romBytes (RomCommand count register) = 1 ∷ count ∷ register ∷ []
+romBytes (Number step i) = 2 ∷ stepByte step ∷ i ∷ []
+
+unfoldable pub memoryBytes : MemoryStage → List ℕ
+memoryBytes Silent = 0 ∷ []
+memoryBytes (Receive incoming count register crc) = 3 ∷ count ∷ register ∷ word crc ++ incomingBytes incoming
+memoryBytes (Send outgoing left bits crc) = 4 ∷ left ∷ word bits ++ word crc ++ outgoingBytes outgoing
+memoryBytes (Armed mode target byte) = 5 ∷ byte ∷ modeByte mode ∷ targetBytes target
+
+unfoldable pub stageBytes : Stage → List ℕ
+stageBytes (Rom r) = romBytes r
+stageBytes (Memory m) = memoryBytes m
+
+unfoldable pub chipBytes : State → List ℕ
+chipBytes s = front 12 (stageBytes (s .stage)) [] ++ s .number
+
+-- ---- the state of any bytes; a tag that is that of none counts as another one
 
 unfoldable pub commandOf : ℕ → Command
 commandOf number =
@@ -63,68 +111,6 @@ commandOf number =
     (cond (eqb number 5) (Write Quick DataSpace)
     (Write Quick StatusSpace))))))
 
--- ---- what comes in or goes out
-
-unfoldable pub addressed : ℕ → ℕ → Content
-addressed what first = record { what = what; which = 0; value = 0; first = first }
-
-unfoldable pub aimed : ℕ → WriteMode → Target → ℕ → Content
-aimed what mode (Data a) value = record { what = what; which = writeNumber mode DataSpace; value = value; first = a .0 }
-aimed what mode (Status a) value = record { what = what; which = writeNumber mode StatusSpace; value = value; first = a .0 }
-
-unfoldable pub targetOf : ℕ → ℕ → Target
-targetOf which first = cond (eqb (which % 2) 0) (Data (record { 0 = first })) (Status (record { 0 = first }))
-
-unfoldable pub targetMode : ℕ → WriteMode
-targetMode which = modeOf (which / 2)
-
-unfoldable pub incomingContent : Incoming → Content
-incomingContent CommandByte = addressed 0 0
-incomingContent (AddressLow command) = record { what = 1; which = commandNumber command; value = 0; first = 0 }
-incomingContent (AddressHigh command low) = record { what = 2; which = commandNumber command; value = low; first = 0 }
-incomingContent (DataByte mode target) = aimed 3 mode target 0
-
-unfoldable pub incomingOf : Content → Incoming
-incomingOf c =
-    cond (eqb (c .what) 0) CommandByte
-    (cond (eqb (c .what) 1) (AddressLow (commandOf (c .which)))
-    (cond (eqb (c .what) 2) (AddressHigh (commandOf (c .which)) (c .value))
-    (DataByte (targetMode (c .which)) (targetOf (c .which) (c .first)))))
-
-unfoldable pub outgoingContent : Outgoing → Content
-outgoingContent (MemoryData a) = addressed 0 (a .0)
-outgoingContent MemoryCrc = addressed 1 0
-outgoingContent (StatusData a) = addressed 2 (a .0)
-outgoingContent (StatusCrc a) = addressed 3 (a .0)
-outgoingContent (RedirectionByte a) = addressed 4 (a .0)
-outgoingContent (RedirectionCrc a) = addressed 5 (a .0)
-outgoingContent (PageData a) = addressed 6 (a .0)
-outgoingContent (PageCrc a) = addressed 7 (a .0)
-outgoingContent (WriteCrc target byte) = aimed 8 Ordinary target byte
-outgoingContent (ReadBack mode target) = aimed 9 mode target 0
-
-unfoldable pub outgoingOf : Content → Outgoing
-outgoingOf c =
-    cond (eqb (c .what) 0) (MemoryData (record { 0 = c .first }))
-    (cond (eqb (c .what) 1) MemoryCrc
-    (cond (eqb (c .what) 2) (StatusData (record { 0 = c .first }))
-    (cond (eqb (c .what) 3) (StatusCrc (record { 0 = c .first }))
-    (cond (eqb (c .what) 4) (RedirectionByte (record { 0 = c .first }))
-    (cond (eqb (c .what) 5) (RedirectionCrc (record { 0 = c .first }))
-    (cond (eqb (c .what) 6) (PageData (record { 0 = c .first }))
-    (cond (eqb (c .what) 7) (PageCrc (record { 0 = c .first }))
-    (cond (eqb (c .what) 8) (WriteCrc (targetOf (c .which) (c .first)) (c .value))
-    (ReadBack (targetMode (c .which)) (targetOf (c .which) (c .first)))))))))))
-
--- ---- the steps of a ROM function
-
-unfoldable pub stepNumber : RomStep → ℕ
-stepNumber Read = 0
-stepNumber Match = 1
-stepNumber SearchBit = 2
-stepNumber SearchComplement = 3
-stepNumber SearchTake = 4
-
 unfoldable pub stepOf : ℕ → RomStep
 stepOf number =
     cond (eqb number 0) Read
@@ -133,57 +119,49 @@ stepOf number =
     (cond (eqb number 3) SearchComplement
     SearchTake)))
 
--- ---- stages
+unfoldable pub targetOf : ℕ → ℕ → Target
+targetOf number address = cond (eqb number 0) (Data (record { 0 = address })) (Status (record { 0 = address }))
 
-unfoldable pub contentFront : ℕ → Content → ℕ → ℕ → ℕ → ℕ → Front
-contentFront kind c count register bits crc =
-    record {
-      kind = kind;
-      what = c .what;
-      count = count;
-      which = c .which;
-      value = c .value;
-      page = 0;
-      other = register;
-      first = c .first;
-      second = bits;
-      third = crc;
-    }
+unfoldable pub incomingOf : List ℕ → Incoming
+incomingOf b =
+    cond (eqb (getD b 5 0) 1) (AddressLow (commandOf (getD b 6 0)))
+    (cond (eqb (getD b 5 0) 2) (AddressHigh (commandOf (getD b 6 0)) (getD b 7 0))
+    (cond (eqb (getD b 5 0) 3) (DataByte (modeOf (getD b 6 0)) (targetOf (getD b 7 0) (joined (getD b 8 0) (getD b 9 0))))
+    CommandByte))
 
-unfoldable pub contentOf : Front → Content
-contentOf f = record { what = f .what; which = f .which; value = f .value; first = f .first }
+unfoldable pub outgoingOf : List ℕ → Outgoing
+outgoingOf b =
+    let a = joined (getD b 7 0) (getD b 8 0) in
+    let target = targetOf (getD b 8 0) (joined (getD b 9 0) (getD b 10 0)) in
+    cond (eqb (getD b 6 0) 0) (MemoryData (record { 0 = a }))
+    (cond (eqb (getD b 6 0) 2) (StatusData (record { 0 = a }))
+    (cond (eqb (getD b 6 0) 3) (StatusCrc (record { 0 = a }))
+    (cond (eqb (getD b 6 0) 4) (RedirectionByte (record { 0 = a }))
+    (cond (eqb (getD b 6 0) 5) (RedirectionCrc (record { 0 = a }))
+    (cond (eqb (getD b 6 0) 6) (PageData (record { 0 = a }))
+    (cond (eqb (getD b 6 0) 7) (PageCrc (record { 0 = a }))
+    (cond (eqb (getD b 6 0) 8) (WriteCrc target (getD b 7 0))
+    (cond (eqb (getD b 6 0) 9) (ReadBack (modeOf (getD b 7 0)) target)
+    MemoryCrc))))))))
 
-unfoldable pub romFront : RomStage → Front
-romFront (RomCommand count register) = bytesFront 1 0 count 0 register
-romFront (Number step i) = bytesFront 2 (stepNumber step) i 0 0
-
-unfoldable pub memoryFront : MemoryStage → Front
-memoryFront Silent = bytesFront 0 0 0 0 0
-memoryFront (Receive incoming count register crc) = contentFront 3 (incomingContent incoming) count register 0 crc
-memoryFront (Send outgoing left bits crc) = contentFront 4 (outgoingContent outgoing) left 0 bits crc
-memoryFront (Armed mode target byte) = contentFront 5 (aimed 0 mode target byte) 0 0 0 0
-
-unfoldable pub stageFront : Stage → Front
-stageFront (Rom r) = romFront r
-stageFront (Memory m) = memoryFront m
-
--- a front that is that of no stage counts as silent, or as a stage that has another front
-unfoldable pub frontStage : Front → Stage
-frontStage f =
-    cond (eqb (f .kind) 1) (Rom (RomCommand (f .count) (f .value)))
-    (cond (eqb (f .kind) 2) (Rom (Number (stepOf (f .what)) (f .count)))
-    (cond (eqb (f .kind) 3) (Memory (Receive (incomingOf (contentOf f)) (f .count) (f .other) (f .third)))
-    (cond (eqb (f .kind) 4) (Memory (Send (outgoingOf (contentOf f)) (f .count) (f .second) (f .third)))
-    (cond (eqb (f .kind) 5) (Memory (Armed (targetMode (f .which)) (targetOf (f .which) (f .first)) (f .value)))
+unfoldable pub stageOf : List ℕ → Stage
+stageOf b =
+    cond (eqb (getD b 0 0) 1) (Rom (RomCommand (getD b 1 0) (getD b 2 0)))
+    (cond (eqb (getD b 0 0) 2) (Rom (Number (stepOf (getD b 1 0)) (getD b 2 0)))
+    (cond (eqb (getD b 0 0) 3) (Memory (Receive (incomingOf b) (getD b 1 0) (getD b 2 0) (joined (getD b 3 0) (getD b 4 0))))
+    (cond (eqb (getD b 0 0) 4) (Memory (Send (outgoingOf b) (getD b 1 0) (joined (getD b 2 0) (getD b 3 0)) (joined (getD b 4 0) (getD b 5 0))))
+    (cond (eqb (getD b 0 0) 5) (Memory (Armed (modeOf (getD b 2 0)) (targetOf (getD b 3 0) (joined (getD b 4 0) (getD b 5 0))) (getD b 1 0)))
     (Memory Silent)))))
 
--- ---- states
+abbrev pub chipAt : List ℕ → Stage → State
+chipAt b stage = record { stage = stage; number = restAt 8 b }
 
-unfoldable pub chipBytes : State → List ℕ
-chipBytes s = laid (stageFront (s .stage)) ++ s .number
+-- of bytes of another length
+abbrev pub chipNone : State
+chipNone = record { stage = Memory Silent; number = replicate 8 0 }
 
 unfoldable pub chipOf : List ℕ → State
-chipOf b = record { stage = frontStage (frontAt b); number = restAt 8 b }
+chipOf b = cond (eqb (length b) 24) (chipAt b (stageOf b)) chipNone
 
 -- the bytes are those of a state
 unfoldable pub isChipState : List ℕ → Bool
@@ -191,7 +169,7 @@ isChipState b = isCopy 24 (chipBytes (chipOf b)) b
 
 -- 2, or accepted
 unfoldable pub chipJudged : List ℕ → Told Done
-chipJudged b = judge (isChipState b) 2 (accepted done)
+chipJudged b = judgedBy (isChipState b)
 
 -- a state into a buffer of 24 bytes: 10, or accepted; a refusal leaves the buffer
 unfoldable pub chipPacked : List ℕ → Told Done
@@ -201,11 +179,16 @@ unfoldable pub chipBuffer : State → List ℕ → List ℕ
 chipBuffer s buffer = bufferAfter 24 (chipBytes s) buffer
 
 -- packing and unpacking are inverse
-pub record ChipPacking : Type 0 where
-  -- of a front whatever the stage
-  pub stage-back : (s : Stage) → frontStage (stageFront s) ≡ s
-  -- bytes that are accepted are those of the state that they hold
-  pub bytes-back : (b : List ℕ) → isChipState b ≡ true → chipBytes (chipOf b) ≡ b
-  -- a state whose numbers fit their types has bytes that hold it, and they are accepted
-  pub state-back : (s : State) → Fits (stageFront (s .stage)) → length (s .number) ≡ 8 → chipOf (chipBytes s) ≡ s
-  pub state-kept : (s : State) → Fits (stageFront (s .stage)) → length (s .number) ≡ 8 → isChipState (chipBytes s) ≡ true
+abbrev pub ChipPacking : Type 0
+ChipPacking = Inverse 8 chipBytes (λ s. s .number) chipOf isChipState
+
+-- ---- what is found at a place, and whether the bytes from there to the end of the enum's are its own
+
+unfoldable pub incomingFound : List ℕ → IncomingFound
+incomingFound b = record { 0 = same 5 (padded 7 (incomingBytes (incomingOf b))) b; 1 = incomingOf b }
+
+unfoldable pub outgoingFound : List ℕ → OutgoingFound
+outgoingFound b = record { 0 = same 6 (padded 6 (outgoingBytes (outgoingOf b))) b; 1 = outgoingOf b }
+
+unfoldable pub stageFound : List ℕ → StageFound
+stageFound b = record { 0 = same 0 (padded 12 (stageBytes (stageOf b))) b; 1 = stageOf b }

@@ -1,45 +1,51 @@
--- The number read's state as 24 bytes: the front, and the eight bytes that have come in.
+-- The number read's state as 24 bytes: the phase in eight bytes, eight zero bytes, and the eight bytes that have come in.
 use Prim.Native.Nat.{ℕ}
-use mathlib.Core.Path.{_≡_}
-use mathlib.Core.Bool.{Bool, true, cond}
-use mathlib.Core.List.{List, _++_}
+use mathlib.Core.Bool.{Bool, cond}
+use mathlib.Core.List.{List, [], _∷_, _++_}
 use lib.Dec.{eqb}
-use lib.ListN.{length}
-use Rattle.terms.specs.Told.{Told, accepted, judge, Done, done}
+use lib.ListN.{length, getD, replicate}
+use Rattle.terms.specs.Told.{Told, Done}
 use Rattle.number_read.specs.declared.Phase.{Phase}
 use Rattle.number_read.specs.declared.Phase.the-variants.{Begin, Presence, Command, Receive, Closing, Done as Ended, Stopped}
 use Rattle.number_read.specs.declared.NumberRead.{NumberRead}
-use Rattle.packing.specs.declared.front.Front.{Front}
-use Rattle.packing.specs.Front.{laid, frontAt, bytesFront, stopFront, Fits, restAt, isCopy, bufferTold, bufferAfter, refusalOf}
+use Rattle.packing.specs.declared.number_state.PhaseFound.{PhaseFound}
+use Rattle.packing.specs.Bytes.{padded, front, same, restAt, isCopy, Inverse, judgedBy, bufferTold, bufferAfter, refusalBytes, refusalOf}
 
--- The front, by kind. 0: begin. 1: presence. 2: a bit of the command (count). 3: a byte is received (what); so many of its bits are out
--- (count), and the others in a register (value). 4: closing. 5: done. 6: stopped by a refusal, its number (which) and its value (value).
+-- ---- the layout
 
-unfoldable pub phaseFront : Phase → Front
-phaseFront Begin = bytesFront 0 0 0 0 0
-phaseFront Presence = bytesFront 1 0 0 0 0
-phaseFront (Command i) = bytesFront 2 0 i 0 0
-phaseFront (Receive k left register) = bytesFront 3 k left 0 register
-phaseFront Closing = bytesFront 4 0 0 0 0
-phaseFront Ended = bytesFront 5 0 0 0 0
-phaseFront (Stopped r) = stopFront 6 r
-
--- a front that is that of no phase counts as Begin, or as a phase that has another front
-unfoldable pub frontPhase : Front → Phase
-frontPhase f =
-    cond (eqb (f .kind) 1) Presence
-    (cond (eqb (f .kind) 2) (Command (f .count))
-    (cond (eqb (f .kind) 3) (Receive (f .what) (f .count) (f .value))
-    (cond (eqb (f .kind) 4) Closing
-    (cond (eqb (f .kind) 5) Ended
-    (cond (eqb (f .kind) 6) (Stopped (refusalOf (f .which) (f .value)))
-    Begin)))))
+unfoldable pub phaseBytes : Phase → List ℕ
+phaseBytes Begin = 0 ∷ []
+phaseBytes Presence = 1 ∷ []
+phaseBytes (Command i) = 2 ∷ i ∷ []
+phaseBytes (Receive k left register) = 3 ∷ k ∷ left ∷ register ∷ []
+phaseBytes Closing = 4 ∷ []
+phaseBytes Ended = 5 ∷ []
+phaseBytes (Stopped r) = 6 ∷ refusalBytes r
 
 unfoldable pub numberBytes : NumberRead → List ℕ
-numberBytes s = laid (phaseFront (s .phase)) ++ s .bytes
+numberBytes s = front 8 (phaseBytes (s .phase)) [] ++ s .bytes
+
+-- ---- the state of any bytes; a tag that is that of none counts as another one
+
+unfoldable pub phaseOf : List ℕ → Phase
+phaseOf b =
+    cond (eqb (getD b 0 0) 1) Presence
+    (cond (eqb (getD b 0 0) 2) (Command (getD b 1 0))
+    (cond (eqb (getD b 0 0) 3) (Receive (getD b 1 0) (getD b 2 0) (getD b 3 0))
+    (cond (eqb (getD b 0 0) 4) Closing
+    (cond (eqb (getD b 0 0) 5) Ended
+    (cond (eqb (getD b 0 0) 6) (Stopped (refusalOf (getD b 1 0) (getD b 2 0)))
+    Begin)))))
+
+abbrev pub numberAt : List ℕ → Phase → NumberRead
+numberAt b phase = record { phase = phase; bytes = restAt 8 b }
+
+-- of bytes of another length
+abbrev pub numberNone : NumberRead
+numberNone = record { phase = Begin; bytes = replicate 8 0 }
 
 unfoldable pub numberReadOf : List ℕ → NumberRead
-numberReadOf b = record { phase = frontPhase (frontAt b); bytes = restAt 8 b }
+numberReadOf b = cond (eqb (length b) 24) (numberAt b (phaseOf b)) numberNone
 
 -- the bytes are those of a state
 unfoldable pub isNumberState : List ℕ → Bool
@@ -47,7 +53,7 @@ isNumberState b = isCopy 24 (numberBytes (numberReadOf b)) b
 
 -- 2, or accepted
 unfoldable pub numberJudged : List ℕ → Told Done
-numberJudged b = judge (isNumberState b) 2 (accepted done)
+numberJudged b = judgedBy (isNumberState b)
 
 -- a state into a buffer of 24 bytes: 10, or accepted; a refusal leaves the buffer
 unfoldable pub numberPacked : List ℕ → Told Done
@@ -57,11 +63,10 @@ unfoldable pub numberBuffer : NumberRead → List ℕ → List ℕ
 numberBuffer s buffer = bufferAfter 24 (numberBytes s) buffer
 
 -- packing and unpacking are inverse
-pub record NumberPacking : Type 0 where
-  -- of a front whatever the phase
-  pub phase-back : (p : Phase) → frontPhase (phaseFront p) ≡ p
-  -- bytes that are accepted are those of the state that they hold
-  pub bytes-back : (b : List ℕ) → isNumberState b ≡ true → numberBytes (numberReadOf b) ≡ b
-  -- a state whose numbers fit their types has bytes that hold it, and they are accepted
-  pub state-back : (s : NumberRead) → Fits (phaseFront (s .phase)) → length (s .bytes) ≡ 8 → numberReadOf (numberBytes s) ≡ s
-  pub state-kept : (s : NumberRead) → Fits (phaseFront (s .phase)) → length (s .bytes) ≡ 8 → isNumberState (numberBytes s) ≡ true
+abbrev pub NumberPacking : Type 0
+NumberPacking = Inverse 8 numberBytes (λ s. s .bytes) numberReadOf isNumberState
+
+-- ---- what is found at a place, and whether the bytes from there to the end of the enum's are its own
+
+unfoldable pub phaseFound : List ℕ → PhaseFound
+phaseFound b = record { 0 = same 0 (padded 8 (phaseBytes (phaseOf b))) b; 1 = phaseOf b }

@@ -1,10 +1,15 @@
-// The chip's state as 24 bytes: the front, and the registration number. specs/Chip.antt has the layout of the front.
+// The chip's state as 24 bytes: specs/Chip.antt has the layout.
 ghost use mathlib.Core.Path.{_≡_};
 ghost use mathlib.Core.Bool.{true};
+ghost use mathlib.Core.List.{[], _∷_, _++_};
+ghost use lib.ListN.{length};
 ghost use Rattle.terms.specs.Told.{judgedTold};
-ghost use Rattle.packing.specs.Chip.{writeNumber, commandNumber, commandOf, addressed, aimed, targetOf, targetMode, incomingContent, incomingOf, outgoingContent, outgoingOf, stepNumber, stepOf, contentFront, romFront, memoryFront, stageFront, contentOf, frontStage, chipBytes, chipOf, isChipState, chipJudged, chipPacked, chipBuffer};
-use crate::front;
-use crate::front::Front;
+ghost use Rattle.memory_stage.specs.declared.stage.MemoryStage.the-variants.{Receive, Send};
+ghost use Rattle.packing.specs.Bytes.{word, front};
+ghost use Rattle.packing.specs.Chip.{writeByte, commandByte, commandOf, targetByte, targetAddress, targetBytes, targetOf, stepByte, stepOf};
+ghost use Rattle.packing.specs.Chip.{romBytes, memoryBytes, stageBytes, incomingFound, outgoingFound, stageFound, chipAt, chipNone, chipBytes};
+ghost use Rattle.packing.specs.Chip.{chipOf, isChipState, chipJudged, chipPacked, chipBuffer};
+use crate::bytes;
 use chip::event::Stage;
 use chip::event::State;
 use memory_stage::stage::Command;
@@ -18,15 +23,8 @@ use terms::address::Space;
 use terms::address::StatusAddress;
 use terms::address::Target;
 use terms::refusal::Judged;
+use terms::refusal::Refusal;
 use terms::write_mode::WriteMode;
-
-// What comes in or goes out: which of its kind it is, and a command or a memory, a byte and an address that it names.
-pub struct Content {
-    pub what: u8,
-    pub which: u8,
-    pub value: u8,
-    pub first: u16,
-}
 
 // The state that bytes hold, with 2 where they hold none.
 pub struct Unpacked {
@@ -34,32 +32,38 @@ pub struct Unpacked {
     pub state: State,
 }
 
-// ---- commands
+// What stands in bytes, and whether those from its place to the end of the enum's are its own.
+pub struct IncomingFound(pub bool, pub Incoming);
 
-// A memory and a mode in which it is written.
+pub struct OutgoingFound(pub bool, pub Outgoing);
+
+pub struct StageFound(pub bool, pub Stage);
+
+// ---- enums by a number
+
 fn number_of_write(mode: WriteMode, space: Space) -> u8
-    ensures { λ r. ⌜ r ≡ writeNumber mode space ⌝ }
+    ensures { λ r. ⌜ r ≡ writeByte mode space ⌝ }
 {
     match mode {
         WriteMode::Ordinary => match space {
-            Space::Data => 0,
-            Space::Status => 1,
+            Space::Data => 3,
+            Space::Status => 4,
         },
         WriteMode::Quick => match space {
-            Space::Data => 2,
-            Space::Status => 3,
+            Space::Data => 5,
+            Space::Status => 6,
         },
     }
 }
 
 fn number_of_command(command: Command) -> u8
-    ensures { λ r. ⌜ r ≡ commandNumber command ⌝ }
+    ensures { λ r. ⌜ r ≡ commandByte command ⌝ }
 {
     match command {
         Command::ReadMemory => 0,
         Command::ReadStatus => 1,
         Command::ExtendedRead => 2,
-        Command::Write(mode, space) => 3 + number_of_write(mode, space),
+        Command::Write(mode, space) => number_of_write(mode, space),
     }
 }
 
@@ -77,130 +81,8 @@ fn command_of(number: u8) -> Command
     }
 }
 
-// ---- addresses
-
-fn at_address(what: u8, first: u16) -> Content
-    ensures { λ r. ⌜ r ≡ addressed what first ⌝ }
-{
-    Content {
-        what,
-        which: 0,
-        value: 0,
-        first,
-    }
-}
-
-fn at_target(what: u8, mode: WriteMode, target: Target, value: u8) -> Content
-    ensures { λ r. ⌜ r ≡ aimed what mode target value ⌝ }
-{
-    match target {
-        Target::Data(a) => Content {
-            what,
-            which: number_of_write(mode, Space::Data),
-            value,
-            first: a.0,
-        },
-        Target::Status(a) => Content {
-            what,
-            which: number_of_write(mode, Space::Status),
-            value,
-            first: a.0,
-        },
-    }
-}
-
-fn target_of(which: u8, first: u16) -> Target
-    ensures { λ r. ⌜ r ≡ targetOf which first ⌝ }
-{
-    if which % 2 == 0 {
-        Target::Data(DataAddress(first))
-    } else {
-        Target::Status(StatusAddress(first))
-    }
-}
-
-fn mode_of_target(which: u8) -> WriteMode
-    ensures { λ r. ⌜ r ≡ targetMode which ⌝ }
-{
-    front::mode_of((which / 2) as u16)
-}
-
-// ---- what comes in
-
-fn content_in(incoming: Incoming) -> Content
-    ensures { λ r. ⌜ r ≡ incomingContent incoming ⌝ }
-{
-    match incoming {
-        Incoming::Command => at_address(0, 0),
-        Incoming::AddressLow(command) => Content {
-            what: 1,
-            which: number_of_command(command),
-            value: 0,
-            first: 0,
-        },
-        Incoming::AddressHigh(command, low) => Content {
-            what: 2,
-            which: number_of_command(command),
-            value: low,
-            first: 0,
-        },
-        Incoming::Data(mode, target) => at_target(3, mode, target, 0),
-    }
-}
-
-fn incoming_of(c: Content) -> Incoming
-    ensures { λ r. ⌜ r ≡ incomingOf c ⌝ }
-{
-    let what = c.what;
-    match what {
-        0 => Incoming::Command,
-        1 => Incoming::AddressLow(command_of(c.which)),
-        2 => Incoming::AddressHigh(command_of(c.which), c.value),
-        _ => Incoming::Data(mode_of_target(c.which), target_of(c.which, c.first)),
-    }
-}
-
-// ---- what goes out
-
-fn content_out(outgoing: Outgoing) -> Content
-    ensures { λ r. ⌜ r ≡ outgoingContent outgoing ⌝ }
-{
-    match outgoing {
-        Outgoing::MemoryData(a) => at_address(0, a.0),
-        Outgoing::MemoryCrc => at_address(1, 0),
-        Outgoing::StatusData(a) => at_address(2, a.0),
-        Outgoing::StatusCrc(a) => at_address(3, a.0),
-        Outgoing::RedirectionByte(a) => at_address(4, a.0),
-        Outgoing::RedirectionCrc(a) => at_address(5, a.0),
-        Outgoing::PageData(a) => at_address(6, a.0),
-        Outgoing::PageCrc(a) => at_address(7, a.0),
-        Outgoing::WriteCrc(target, byte) => at_target(8, WriteMode::Ordinary, target, byte),
-        Outgoing::ReadBack(mode, target) => at_target(9, mode, target, 0),
-    }
-}
-
-fn outgoing_of(c: Content) -> Outgoing
-    ensures { λ r. ⌜ r ≡ outgoingOf c ⌝ }
-{
-    let what = c.what;
-    match what {
-        0 => Outgoing::MemoryData(DataAddress(c.first)),
-        1 => Outgoing::MemoryCrc,
-        2 => Outgoing::StatusData(StatusAddress(c.first)),
-        3 => Outgoing::StatusCrc(StatusAddress(c.first)),
-        4 => Outgoing::RedirectionByte(DataAddress(c.first)),
-        5 => Outgoing::RedirectionCrc(DataAddress(c.first)),
-        6 => Outgoing::PageData(DataAddress(c.first)),
-        7 => Outgoing::PageCrc(DataAddress(c.first)),
-        8 => Outgoing::WriteCrc(target_of(c.which, c.first), c.value),
-        _ => Outgoing::ReadBack(mode_of_target(c.which), target_of(c.which, c.first)),
-    }
-}
-
-// ---- the steps of a ROM function
-
 fn number_of_step(step: RomStep) -> u8
-    ensures { λ r. ⌜ r ≡ stepNumber step ⌝ }
+    ensures { λ r. ⌜ r ≡ stepByte step ⌝ }
 {
     match step {
         RomStep::Read => 0,
@@ -223,79 +105,200 @@ fn step_of(number: u8) -> RomStep
     }
 }
 
-// ---- stages
-
-fn front_of_content(kind: u8, c: Content, count: u8, register: u8, bits: u16, crc: u16) -> Front
-    ensures { λ r. ⌜ r ≡ contentFront kind c count register bits crc ⌝ }
+fn number_of_target(target: Target) -> u8
+    ensures { λ r. ⌜ r ≡ targetByte target ⌝ }
 {
-    Front {
-        kind,
-        what: c.what,
-        count,
-        which: c.which,
-        value: c.value,
-        page: 0,
-        other: register,
-        first: c.first,
-        second: bits,
-        third: crc,
+    match target {
+        Target::Data(_) => 0,
+        Target::Status(_) => 1,
     }
 }
 
-fn content_of(f: Front) -> Content
-    ensures { λ r. ⌜ r ≡ contentOf f ⌝ }
+fn address_of_target(target: Target) -> u16
+    ensures { λ r. ⌜ r ≡ targetAddress target ⌝ }
 {
-    Content {
-        what: f.what,
-        which: f.which,
-        value: f.value,
-        first: f.first,
+    match target {
+        Target::Data(a) => a.0,
+        Target::Status(a) => a.0,
     }
 }
 
-fn front_of_rom(stage: RomStage) -> Front
-    ensures { λ r. ⌜ r ≡ romFront stage ⌝ }
+fn target_of(number: u8, address: u16) -> Target
+    ensures { λ r. ⌜ r ≡ targetOf number address ⌝ }
 {
-    match stage {
-        RomStage::Command(count, register) => front::of_bytes(1, 0, count, 0, register),
-        RomStage::Number(step, i) => front::of_bytes(2, number_of_step(step), i, 0, 0),
+    match number {
+        0 => Target::Data(DataAddress(address)),
+        _ => Target::Status(StatusAddress(address)),
     }
 }
 
-fn front_of_memory(stage: MemoryStage) -> Front
-    ensures { λ r. ⌜ r ≡ memoryFront stage ⌝ }
+// ---- into bytes
+
+fn front_of_rom(stage: RomStage) -> [u8; 16]
+    ensures { λ r. ⌜ r ≡ front 12 (romBytes stage) [] ⌝ }
 {
     match stage {
-        MemoryStage::Silent => front::of_bytes(0, 0, 0, 0, 0),
-        MemoryStage::Receive(incoming, count, register, crc) => front_of_content(
-            3,
-            content_in(incoming),
-            count,
-            register,
-            0,
-            crc,
-        ),
-        MemoryStage::Send(outgoing, left, bits, crc) => front_of_content(
-            4,
-            content_out(outgoing),
-            left,
-            0,
-            bits,
-            crc,
-        ),
-        MemoryStage::Armed(mode, target, byte) => front_of_content(
-            5,
-            at_target(0, mode, target, byte),
-            0,
-            0,
-            0,
-            0,
-        ),
+        RomStage::Command(n, x) => [1, n, x, 0, 0, 0, 0, 0, 0, 0, 0, 0, 0, 0, 0, 0],
+        RomStage::Number(step, i) => {
+            let s = number_of_step(step);
+            [2, s, i, 0, 0, 0, 0, 0, 0, 0, 0, 0, 0, 0, 0, 0]
+        }
     }
 }
 
-fn front_of_stage(stage: Stage) -> Front
-    ensures { λ r. ⌜ r ≡ stageFront stage ⌝ }
+fn front_of_receive(incoming: Incoming, n: u8, x: u8, crc: u16) -> [u8; 16]
+    ensures { λ r. ⌜ r ≡ front 12 (memoryBytes (Receive incoming n x crc)) [] ⌝ }
+{
+    let l = bytes::low(crc);
+    let h = bytes::high(crc);
+    match incoming {
+        Incoming::Command => [3, n, x, l, h, 0, 0, 0, 0, 0, 0, 0, 0, 0, 0, 0],
+        Incoming::AddressLow(command) => {
+            let c = number_of_command(command);
+            [3, n, x, l, h, 1, c, 0, 0, 0, 0, 0, 0, 0, 0, 0]
+        }
+        Incoming::AddressHigh(command, low) => {
+            let c = number_of_command(command);
+            [3, n, x, l, h, 2, c, low, 0, 0, 0, 0, 0, 0, 0, 0]
+        }
+        Incoming::Data(mode, target) => {
+            let m = bytes::number_of_mode(mode);
+            let t = number_of_target(target);
+            let a = address_of_target(target);
+            [
+                3,
+                n,
+                x,
+                l,
+                h,
+                3,
+                m,
+                t,
+                bytes::low(a),
+                bytes::high(a),
+                0,
+                0,
+                0,
+                0,
+                0,
+                0,
+            ]
+        }
+    }
+}
+
+// Something is sent that has a tag and an address.
+fn sent(left: u8, bits: u16, crc: u16, tag: u8, a: u16) -> [u8; 16]
+    ensures { λ r. ⌜ r ≡ front 12 (4 ∷ left ∷ word bits ++ word crc ++ tag ∷ word a) [] ⌝ }
+{
+    let b = bytes::low(bits);
+    let d = bytes::high(bits);
+    let l = bytes::low(crc);
+    let h = bytes::high(crc);
+    [
+        4,
+        left,
+        b,
+        d,
+        l,
+        h,
+        tag,
+        bytes::low(a),
+        bytes::high(a),
+        0,
+        0,
+        0,
+        0,
+        0,
+        0,
+        0,
+    ]
+}
+
+// Something is sent that has a tag, a byte and a target.
+fn aimed(left: u8, bits: u16, crc: u16, tag: u8, x: u8, target: Target) -> [u8; 16]
+    ensures { λ r. ⌜ r ≡ front 12 (4 ∷ left ∷ word bits ++ word crc ++ tag ∷ x ∷ targetBytes target) [] ⌝ }
+{
+    let b = bytes::low(bits);
+    let d = bytes::high(bits);
+    let l = bytes::low(crc);
+    let h = bytes::high(crc);
+    let t = number_of_target(target);
+    let a = address_of_target(target);
+    [
+        4,
+        left,
+        b,
+        d,
+        l,
+        h,
+        tag,
+        x,
+        t,
+        bytes::low(a),
+        bytes::high(a),
+        0,
+        0,
+        0,
+        0,
+        0,
+    ]
+}
+
+fn front_of_send(outgoing: Outgoing, left: u8, bits: u16, crc: u16) -> [u8; 16]
+    ensures { λ r. ⌜ r ≡ front 12 (memoryBytes (Send outgoing left bits crc)) [] ⌝ }
+{
+    match outgoing {
+        Outgoing::MemoryData(a) => sent(left, bits, crc, 0, a.0),
+        Outgoing::MemoryCrc => sent(left, bits, crc, 1, 0),
+        Outgoing::StatusData(a) => sent(left, bits, crc, 2, a.0),
+        Outgoing::StatusCrc(a) => sent(left, bits, crc, 3, a.0),
+        Outgoing::RedirectionByte(a) => sent(left, bits, crc, 4, a.0),
+        Outgoing::RedirectionCrc(a) => sent(left, bits, crc, 5, a.0),
+        Outgoing::PageData(a) => sent(left, bits, crc, 6, a.0),
+        Outgoing::PageCrc(a) => sent(left, bits, crc, 7, a.0),
+        Outgoing::WriteCrc(target, x) => aimed(left, bits, crc, 8, x, target),
+        Outgoing::ReadBack(mode, target) => {
+            aimed(left, bits, crc, 9, bytes::number_of_mode(mode), target)
+        }
+    }
+}
+
+fn front_of_memory(stage: MemoryStage) -> [u8; 16]
+    ensures { λ r. ⌜ r ≡ front 12 (memoryBytes stage) [] ⌝ }
+{
+    match stage {
+        MemoryStage::Silent => [0, 0, 0, 0, 0, 0, 0, 0, 0, 0, 0, 0, 0, 0, 0, 0],
+        MemoryStage::Receive(incoming, n, x, crc) => front_of_receive(incoming, n, x, crc),
+        MemoryStage::Send(outgoing, left, bits, crc) => front_of_send(outgoing, left, bits, crc),
+        MemoryStage::Armed(mode, target, x) => {
+            let m = bytes::number_of_mode(mode);
+            let t = number_of_target(target);
+            let a = address_of_target(target);
+            [
+                5,
+                x,
+                m,
+                t,
+                bytes::low(a),
+                bytes::high(a),
+                0,
+                0,
+                0,
+                0,
+                0,
+                0,
+                0,
+                0,
+                0,
+                0,
+            ]
+        }
+    }
+}
+
+fn front_of(stage: Stage) -> [u8; 16]
+    ensures { λ r. ⌜ r ≡ front 12 (stageBytes stage) [] ⌝ }
 {
     match stage {
         Stage::Rom(r) => front_of_rom(r),
@@ -303,43 +306,134 @@ fn front_of_stage(stage: Stage) -> Front
     }
 }
 
-// A front that is that of no stage counts as silent, or as one that has another front.
-fn stage_of(f: Front) -> Stage
-    ensures { λ r. ⌜ r ≡ frontStage f ⌝ }
+// ---- out of bytes
+
+fn incoming_at(b: &[u8]) -> IncomingFound
+    requires { ⌜ length (now b) ≡ 24 ⌝ }
+    ensures { λ r. ⌜ r ≡ incomingFound (now (b .entry)) ⌝ }
 {
-    let kind = f.kind;
-    match kind {
-        1 => Stage::Rom(RomStage::Command(f.count, f.value)),
-        2 => Stage::Rom(RomStage::Number(step_of(f.what), f.count)),
-        3 => Stage::Memory(MemoryStage::Receive(
-            incoming_of(content_of(f)),
-            f.count,
-            f.other,
-            f.third,
-        )),
-        4 => Stage::Memory(MemoryStage::Send(
-            outgoing_of(content_of(f)),
-            f.count,
-            f.second,
-            f.third,
-        )),
-        5 => Stage::Memory(MemoryStage::Armed(
-            mode_of_target(f.which),
-            target_of(f.which, f.first),
-            f.value,
-        )),
-        _ => Stage::Memory(MemoryStage::Silent),
+    let x = b[6];
+    let y = b[7];
+    match b[5] {
+        0 => IncomingFound(bytes::zeros(b, 6, 12), Incoming::Command),
+        1 => IncomingFound(
+            bytes::both(x < 7, bytes::zeros(b, 7, 12)),
+            Incoming::AddressLow(command_of(x)),
+        ),
+        2 => IncomingFound(
+            bytes::both(x < 7, bytes::zeros(b, 8, 12)),
+            Incoming::AddressHigh(command_of(x), y),
+        ),
+        3 => IncomingFound(
+            bytes::both(bytes::both(x < 2, y < 2), bytes::zeros(b, 10, 12)),
+            Incoming::Data(bytes::mode_of(x), target_of(y, bytes::join(b[8], b[9]))),
+        ),
+        _ => IncomingFound(false, Incoming::Command),
+    }
+}
+
+fn outgoing_at(b: &[u8]) -> OutgoingFound
+    requires { ⌜ length (now b) ≡ 24 ⌝ }
+    ensures { λ r. ⌜ r ≡ outgoingFound (now (b .entry)) ⌝ }
+{
+    let x = b[7];
+    let y = b[8];
+    let a = bytes::join(x, y);
+    let t = target_of(y, bytes::join(b[9], b[10]));
+    match b[6] {
+        0 => OutgoingFound(bytes::zeros(b, 9, 12), Outgoing::MemoryData(DataAddress(a))),
+        1 => OutgoingFound(bytes::zeros(b, 7, 12), Outgoing::MemoryCrc),
+        2 => OutgoingFound(
+            bytes::zeros(b, 9, 12),
+            Outgoing::StatusData(StatusAddress(a)),
+        ),
+        3 => OutgoingFound(
+            bytes::zeros(b, 9, 12),
+            Outgoing::StatusCrc(StatusAddress(a)),
+        ),
+        4 => OutgoingFound(
+            bytes::zeros(b, 9, 12),
+            Outgoing::RedirectionByte(DataAddress(a)),
+        ),
+        5 => OutgoingFound(
+            bytes::zeros(b, 9, 12),
+            Outgoing::RedirectionCrc(DataAddress(a)),
+        ),
+        6 => OutgoingFound(bytes::zeros(b, 9, 12), Outgoing::PageData(DataAddress(a))),
+        7 => OutgoingFound(bytes::zeros(b, 9, 12), Outgoing::PageCrc(DataAddress(a))),
+        8 => OutgoingFound(
+            bytes::both(y < 2, bytes::zeros(b, 11, 12)),
+            Outgoing::WriteCrc(t, x),
+        ),
+        9 => OutgoingFound(
+            bytes::both(bytes::both(x < 2, y < 2), bytes::zeros(b, 11, 12)),
+            Outgoing::ReadBack(bytes::mode_of(x), t),
+        ),
+        _ => OutgoingFound(false, Outgoing::MemoryCrc),
+    }
+}
+
+fn stage_at(b: &[u8]) -> StageFound
+    requires { ⌜ length (now b) ≡ 24 ⌝ }
+    ensures { λ r. ⌜ r ≡ stageFound (now (b .entry)) ⌝ }
+{
+    let x = b[1];
+    let y = b[2];
+    let z = b[3];
+    let u = b[4];
+    let v = b[5];
+    match b[0] {
+        0 => StageFound(bytes::zeros(b, 1, 12), Stage::Memory(MemoryStage::Silent)),
+        1 => StageFound(bytes::zeros(b, 3, 12), Stage::Rom(RomStage::Command(x, y))),
+        2 => StageFound(
+            bytes::both(x < 5, bytes::zeros(b, 3, 12)),
+            Stage::Rom(RomStage::Number(step_of(x), y)),
+        ),
+        3 => {
+            let f = incoming_at(b);
+            let i = f.1;
+            StageFound(
+                f.0,
+                Stage::Memory(MemoryStage::Receive(i, x, y, bytes::join(z, u))),
+            )
+        }
+        4 => {
+            let f = outgoing_at(b);
+            let o = f.1;
+            StageFound(
+                f.0,
+                Stage::Memory(MemoryStage::Send(o, x, bytes::join(y, z), bytes::join(u, v))),
+            )
+        }
+        5 => StageFound(
+            bytes::both(bytes::both(y < 2, z < 2), bytes::zeros(b, 6, 12)),
+            Stage::Memory(MemoryStage::Armed(
+                bytes::mode_of(y),
+                target_of(z, bytes::join(u, v)),
+                x,
+            )),
+        ),
+        _ => StageFound(false, Stage::Memory(MemoryStage::Silent)),
     }
 }
 
 // ---- the entries
 
-fn state_of(bytes: &[u8]) -> State
-    ensures { λ r. ⌜ r ≡ chipOf (now (bytes .entry)) ⌝ }
+fn state_at(b: &[u8], stage: Stage) -> State
+    ensures { λ r. ⌜ r ≡ chipAt (now (b .entry)) stage ⌝ }
 {
     State {
-        stage: stage_of(front::front_of(bytes)),
-        number: front::eight_of(bytes),
+        stage,
+        number: bytes::eight_of(b),
+    }
+}
+
+fn none() -> State
+    ensures { λ r. ⌜ r ≡ chipNone ⌝ }
+{
+    State {
+        stage: Stage::Memory(MemoryStage::Silent),
+        number: [0; 8],
     }
 }
 
@@ -349,11 +443,18 @@ pub fn unpack(bytes: &[u8]) -> Unpacked
     ensures judged { λ r. ⌜ judgedTold (r .judged) ≡ chipJudged (now (bytes .entry)) ⌝ }
     ensures state { λ r. ⌜ r .state ≡ chipOf (now (bytes .entry)) ⌝ }
 {
-    let state = state_of(bytes);
-    let stage = state.stage;
-    let number = state.number;
-    let judged = front::judge(front_of_stage(stage), &number, bytes);
-    Unpacked { judged, state }
+    if bytes.len() != 24 {
+        return Unpacked {
+            judged: Judged::Refused(Refusal::StateRange),
+            state: none(),
+        };
+    }
+    let found = stage_at(bytes);
+    let stage = found.1;
+    Unpacked {
+        judged: bytes::judge(bytes::both(found.0, bytes::zeros(bytes, 12, 16))),
+        state: state_at(bytes, stage),
+    }
 }
 
 // A state into a buffer of 24 bytes. Refused: 10. What is left there holds that state and is accepted by unpack.
@@ -365,5 +466,5 @@ pub fn pack(state: State, bytes: &mut [u8]) -> Judged
 {
     let stage = state.stage;
     let number = state.number;
-    front::put(front_of_stage(stage), &number, bytes)
+    bytes::put(front_of(stage), &number, bytes)
 }

@@ -1,13 +1,18 @@
-// The number read's state as 24 bytes: the front, and the bytes that have come in. specs/Number.antt has the layout of the front.
+// The number read's state as 24 bytes: specs/Number.antt has the layout.
 ghost use mathlib.Core.Path.{_≡_};
 ghost use mathlib.Core.Bool.{true};
+ghost use mathlib.Core.List.{[]};
+ghost use lib.ListN.{length};
 ghost use Rattle.terms.specs.Told.{judgedTold};
-ghost use Rattle.packing.specs.Number.{phaseFront, frontPhase, numberBytes, numberReadOf, isNumberState, numberJudged, numberPacked, numberBuffer};
-use crate::front;
-use crate::front::Front;
+ghost use Rattle.packing.specs.Bytes.{front};
+ghost use Rattle.packing.specs.Number.{phaseBytes, phaseFound, numberAt, numberNone, numberBytes, numberReadOf, isNumberState, numberJudged};
+ghost use Rattle.packing.specs.Number.{numberPacked, numberBuffer};
+use crate::bytes;
 use number_read::NumberRead;
 use number_read::Phase;
+use terms::refusal;
 use terms::refusal::Judged;
+use terms::refusal::Refusal;
 
 // The state that bytes hold, with 2 where they hold none.
 pub struct Unpacked {
@@ -15,42 +20,66 @@ pub struct Unpacked {
     pub state: NumberRead,
 }
 
-fn front_of_phase(phase: Phase) -> Front
-    ensures { λ r. ⌜ r ≡ phaseFront phase ⌝ }
+// What stands in bytes, and whether those from its place to the end of the enum's are its own.
+pub struct PhaseFound(pub bool, pub Phase);
+
+fn front_of(phase: Phase) -> [u8; 16]
+    ensures { λ r. ⌜ r ≡ front 8 (phaseBytes phase) [] ⌝ }
 {
     match phase {
-        Phase::Begin => front::of_bytes(0, 0, 0, 0, 0),
-        Phase::Presence => front::of_bytes(1, 0, 0, 0, 0),
-        Phase::Command(i) => front::of_bytes(2, 0, i, 0, 0),
-        Phase::Receive(k, left, register) => front::of_bytes(3, k, left, 0, register),
-        Phase::Closing => front::of_bytes(4, 0, 0, 0, 0),
-        Phase::Done => front::of_bytes(5, 0, 0, 0, 0),
-        Phase::Stopped(refusal) => front::of_stop(6, refusal),
+        Phase::Begin => [0, 0, 0, 0, 0, 0, 0, 0, 0, 0, 0, 0, 0, 0, 0, 0],
+        Phase::Presence => [1, 0, 0, 0, 0, 0, 0, 0, 0, 0, 0, 0, 0, 0, 0, 0],
+        Phase::Command(i) => [2, i, 0, 0, 0, 0, 0, 0, 0, 0, 0, 0, 0, 0, 0, 0],
+        Phase::Receive(k, left, x) => [3, k, left, x, 0, 0, 0, 0, 0, 0, 0, 0, 0, 0, 0, 0],
+        Phase::Closing => [4, 0, 0, 0, 0, 0, 0, 0, 0, 0, 0, 0, 0, 0, 0, 0],
+        Phase::Done => [5, 0, 0, 0, 0, 0, 0, 0, 0, 0, 0, 0, 0, 0, 0, 0],
+        Phase::Stopped(r) => {
+            let n = refusal::number(r);
+            let v = bytes::value_of(r);
+            [6, n, v, 0, 0, 0, 0, 0, 0, 0, 0, 0, 0, 0, 0, 0]
+        }
     }
 }
 
-// A front that is that of no phase counts as Begin, or as a phase that has another front.
-fn phase_of(f: Front) -> Phase
-    ensures { λ r. ⌜ r ≡ frontPhase f ⌝ }
+fn phase_at(b: &[u8]) -> PhaseFound
+    requires { ⌜ length (now b) ≡ 24 ⌝ }
+    ensures { λ r. ⌜ r ≡ phaseFound (now (b .entry)) ⌝ }
 {
-    let kind = f.kind;
-    match kind {
-        1 => Phase::Presence,
-        2 => Phase::Command(f.count),
-        3 => Phase::Receive(f.what, f.count, f.value),
-        4 => Phase::Closing,
-        5 => Phase::Done,
-        6 => Phase::Stopped(front::refusal_of(f.which, f.value)),
-        _ => Phase::Begin,
+    let x = b[1];
+    let y = b[2];
+    match b[0] {
+        0 => PhaseFound(bytes::zeros(b, 1, 8), Phase::Begin),
+        1 => PhaseFound(bytes::zeros(b, 1, 8), Phase::Presence),
+        2 => PhaseFound(bytes::zeros(b, 2, 8), Phase::Command(x)),
+        3 => PhaseFound(bytes::zeros(b, 4, 8), Phase::Receive(x, y, b[3])),
+        4 => PhaseFound(bytes::zeros(b, 1, 8), Phase::Closing),
+        5 => PhaseFound(bytes::zeros(b, 1, 8), Phase::Done),
+        6 => {
+            let f = bytes::refusal_at(x, y);
+            let r = f.1;
+            PhaseFound(bytes::both(f.0, bytes::zeros(b, 3, 8)), Phase::Stopped(r))
+        }
+        _ => PhaseFound(false, Phase::Begin),
     }
 }
 
-fn state_of(bytes: &[u8]) -> NumberRead
-    ensures { λ r. ⌜ r ≡ numberReadOf (now (bytes .entry)) ⌝ }
+// ---- the entries
+
+fn state_at(b: &[u8], phase: Phase) -> NumberRead
+    ensures { λ r. ⌜ r ≡ numberAt (now (b .entry)) phase ⌝ }
 {
     NumberRead {
-        phase: phase_of(front::front_of(bytes)),
-        bytes: front::eight_of(bytes),
+        phase,
+        bytes: bytes::eight_of(b),
+    }
+}
+
+fn none() -> NumberRead
+    ensures { λ r. ⌜ r ≡ numberNone ⌝ }
+{
+    NumberRead {
+        phase: Phase::Begin,
+        bytes: [0; 8],
     }
 }
 
@@ -60,11 +89,18 @@ pub fn unpack(bytes: &[u8]) -> Unpacked
     ensures judged { λ r. ⌜ judgedTold (r .judged) ≡ numberJudged (now (bytes .entry)) ⌝ }
     ensures state { λ r. ⌜ r .state ≡ numberReadOf (now (bytes .entry)) ⌝ }
 {
-    let state = state_of(bytes);
-    let phase = state.phase;
-    let array = state.bytes;
-    let judged = front::judge(front_of_phase(phase), &array, bytes);
-    Unpacked { judged, state }
+    if bytes.len() != 24 {
+        return Unpacked {
+            judged: Judged::Refused(Refusal::StateRange),
+            state: none(),
+        };
+    }
+    let found = phase_at(bytes);
+    let phase = found.1;
+    Unpacked {
+        judged: bytes::judge(bytes::both(found.0, bytes::zeros(bytes, 8, 16))),
+        state: state_at(bytes, phase),
+    }
 }
 
 // A state into a buffer of 24 bytes. Refused: 10. What is left there holds that state and is accepted by unpack.
@@ -76,5 +112,5 @@ pub fn pack(state: NumberRead, bytes: &mut [u8]) -> Judged
 {
     let phase = state.phase;
     let array = state.bytes;
-    front::put(front_of_phase(phase), &array, bytes)
+    bytes::put(front_of(phase), &array, bytes)
 }

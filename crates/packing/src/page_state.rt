@@ -1,16 +1,22 @@
-// The page read's state as 48 bytes: the front, and the bytes that have come in. specs/Page.antt has the layout of the front.
+// The page read's state as 48 bytes: specs/Page.antt has the layout.
 ghost use mathlib.Core.Path.{_≡_};
 ghost use mathlib.Core.Bool.{true};
+ghost use mathlib.Core.List.{[]};
+ghost use lib.ListN.{length};
 ghost use Rattle.terms.specs.Told.{judgedTold};
-ghost use Rattle.packing.specs.Page.{partNumber, partValue, partOf, receiveFront, phaseFront, frontPhase, placed, pageFront, pageReadBytes, pageReadOf, isPageState, pageJudged, pagePacked, pageBuffer};
-use crate::front;
-use crate::front::Front;
+ghost use Rattle.page_read.specs.declared.Phase.the-variants.{Receive};
+ghost use Rattle.packing.specs.Bytes.{front};
+ghost use Rattle.packing.specs.Page.{phaseBytes, partFound, phaseFound, pageAt, pageNone, pageReadBytes, pageReadOf, isPageState, pageJudged};
+ghost use Rattle.packing.specs.Page.{pagePacked, pageBuffer};
+use crate::bytes;
 use page_read::PageRead;
 use page_read::Part;
 use page_read::Phase;
 use terms::address::Page;
 use terms::address::Redirection;
+use terms::refusal;
 use terms::refusal::Judged;
+use terms::refusal::Refusal;
 
 // The state that bytes hold, with 2 where they hold none.
 pub struct Unpacked {
@@ -18,121 +24,108 @@ pub struct Unpacked {
     pub state: PageRead,
 }
 
-fn number_of_part(part: Part) -> u8
-    ensures { λ r. ⌜ r ≡ partNumber part ⌝ }
+// What stands in bytes, and whether those from its place to the end of the enum's are its own.
+pub struct PartFound(pub bool, pub Part);
+
+pub struct PhaseFound(pub bool, pub Phase);
+
+// ---- into bytes
+
+fn front_of_receive(part: Part, left: u8, register: u16) -> [u8; 16]
+    ensures { λ r. ⌜ r ≡ front 8 (phaseBytes (Receive part left register)) [] ⌝ }
 {
+    let l = bytes::low(register);
+    let g = bytes::high(register);
     match part {
-        Part::Redirection => 0,
-        Part::RedirectionCrc(_) => 1,
-        Part::Data(_) => 2,
-        Part::DataCrc => 3,
+        Part::Redirection => [3, left, l, g, 0, 0, 0, 0, 0, 0, 0, 0, 0, 0, 0, 0],
+        Part::RedirectionCrc(b) => [3, left, l, g, 1, b.0, 0, 0, 0, 0, 0, 0, 0, 0, 0, 0],
+        Part::Data(k) => [3, left, l, g, 2, k, 0, 0, 0, 0, 0, 0, 0, 0, 0, 0],
+        Part::DataCrc => [3, left, l, g, 3, 0, 0, 0, 0, 0, 0, 0, 0, 0, 0, 0],
     }
 }
 
-fn value_of_part(part: Part) -> u8
-    ensures { λ r. ⌜ r ≡ partValue part ⌝ }
-{
-    match part {
-        Part::Redirection => 0,
-        Part::RedirectionCrc(b) => b.0,
-        Part::Data(k) => k,
-        Part::DataCrc => 0,
-    }
-}
-
-fn part_of(number: u8, value: u8) -> Part
-    ensures { λ r. ⌜ r ≡ partOf number value ⌝ }
-{
-    match number {
-        0 => Part::Redirection,
-        1 => Part::RedirectionCrc(Redirection(value)),
-        2 => Part::Data(value),
-        _ => Part::DataCrc,
-    }
-}
-
-fn front_of_receive(part: Part, left: u8, register: u16) -> Front
-    ensures { λ r. ⌜ r ≡ receiveFront part left register ⌝ }
-{
-    Front {
-        kind: 3,
-        what: number_of_part(part),
-        count: left,
-        which: 0,
-        value: value_of_part(part),
-        page: 0,
-        other: 0,
-        first: 0,
-        second: register,
-        third: 0,
-    }
-}
-
-fn front_of_phase(phase: Phase) -> Front
-    ensures { λ r. ⌜ r ≡ phaseFront phase ⌝ }
+fn front_of(phase: Phase) -> [u8; 16]
+    ensures { λ r. ⌜ r ≡ front 8 (phaseBytes phase) [] ⌝ }
 {
     match phase {
-        Phase::Begin => front::of_bytes(0, 0, 0, 0, 0),
-        Phase::Presence => front::of_bytes(1, 0, 0, 0, 0),
-        Phase::Command(i) => front::of_bytes(2, 0, i, 0, 0),
+        Phase::Begin => [0, 0, 0, 0, 0, 0, 0, 0, 0, 0, 0, 0, 0, 0, 0, 0],
+        Phase::Presence => [1, 0, 0, 0, 0, 0, 0, 0, 0, 0, 0, 0, 0, 0, 0, 0],
+        Phase::Command(i) => [2, i, 0, 0, 0, 0, 0, 0, 0, 0, 0, 0, 0, 0, 0, 0],
         Phase::Receive(part, left, register) => front_of_receive(part, left, register),
-        Phase::Closing => front::of_bytes(4, 0, 0, 0, 0),
-        Phase::Done => front::of_bytes(5, 0, 0, 0, 0),
-        Phase::Stopped(refusal) => front::of_stop(6, refusal),
+        Phase::Closing => [4, 0, 0, 0, 0, 0, 0, 0, 0, 0, 0, 0, 0, 0, 0, 0],
+        Phase::Done => [5, 0, 0, 0, 0, 0, 0, 0, 0, 0, 0, 0, 0, 0, 0, 0],
+        Phase::Stopped(r) => {
+            let n = refusal::number(r);
+            let v = bytes::value_of(r);
+            [6, n, v, 0, 0, 0, 0, 0, 0, 0, 0, 0, 0, 0, 0, 0]
+        }
     }
 }
 
-// A front that is that of no phase counts as Begin, or as a phase that has another front.
-fn phase_of(f: Front) -> Phase
-    ensures { λ r. ⌜ r ≡ frontPhase f ⌝ }
+// ---- out of bytes
+
+fn part_at(b: &[u8]) -> PartFound
+    requires { ⌜ length (now b) ≡ 48 ⌝ }
+    ensures { λ r. ⌜ r ≡ partFound (now (b .entry)) ⌝ }
 {
-    let kind = f.kind;
-    match kind {
-        1 => Phase::Presence,
-        2 => Phase::Command(f.count),
-        3 => Phase::Receive(part_of(f.what, f.value), f.count, f.second),
-        4 => Phase::Closing,
-        5 => Phase::Done,
-        6 => Phase::Stopped(front::refusal_of(f.which, f.value)),
-        _ => Phase::Begin,
+    let x = b[5];
+    match b[4] {
+        0 => PartFound(bytes::zeros(b, 5, 8), Part::Redirection),
+        1 => PartFound(bytes::zeros(b, 6, 8), Part::RedirectionCrc(Redirection(x))),
+        2 => PartFound(bytes::zeros(b, 6, 8), Part::Data(x)),
+        3 => PartFound(bytes::zeros(b, 5, 8), Part::DataCrc),
+        _ => PartFound(false, Part::DataCrc),
     }
 }
 
-// The page and the hops in the front of a phase.
-fn place(f: Front, page: Page, hops: u8) -> Front
-    ensures { λ r. ⌜ r ≡ placed f page hops ⌝ }
+fn phase_at(b: &[u8]) -> PhaseFound
+    requires { ⌜ length (now b) ≡ 48 ⌝ }
+    ensures { λ r. ⌜ r ≡ phaseFound (now (b .entry)) ⌝ }
 {
-    Front {
-        kind: f.kind,
-        what: f.what,
-        count: f.count,
-        which: f.which,
-        value: f.value,
-        page: page.0,
-        other: hops,
-        first: f.first,
-        second: f.second,
-        third: f.third,
+    let x = b[1];
+    let y = b[2];
+    match b[0] {
+        0 => PhaseFound(bytes::zeros(b, 1, 8), Phase::Begin),
+        1 => PhaseFound(bytes::zeros(b, 1, 8), Phase::Presence),
+        2 => PhaseFound(bytes::zeros(b, 2, 8), Phase::Command(x)),
+        3 => {
+            let p = part_at(b);
+            let part = p.1;
+            PhaseFound(p.0, Phase::Receive(part, x, bytes::join(y, b[3])))
+        }
+        4 => PhaseFound(bytes::zeros(b, 1, 8), Phase::Closing),
+        5 => PhaseFound(bytes::zeros(b, 1, 8), Phase::Done),
+        6 => {
+            let f = bytes::refusal_at(x, y);
+            let r = f.1;
+            PhaseFound(bytes::both(f.0, bytes::zeros(b, 3, 8)), Phase::Stopped(r))
+        }
+        _ => PhaseFound(false, Phase::Begin),
     }
 }
 
-fn front_of_state(state: PageRead) -> Front
-    ensures { λ r. ⌜ r ≡ pageFront state ⌝ }
-{
-    let phase = state.phase;
-    let page = state.page;
-    place(front_of_phase(phase), page, state.hops)
-}
+// ---- the entries
 
-fn state_of(bytes: &[u8]) -> PageRead
-    ensures { λ r. ⌜ r ≡ pageReadOf (now (bytes .entry)) ⌝ }
+fn state_at(b: &[u8], phase: Phase) -> PageRead
+    requires { ⌜ length (now b) ≡ 48 ⌝ }
+    ensures { λ r. ⌜ r ≡ pageAt (now (b .entry)) phase ⌝ }
 {
-    let f = front::front_of(bytes);
     PageRead {
-        phase: phase_of(f),
-        page: Page(f.page),
-        hops: f.other,
-        bytes: front::page_of(bytes),
+        phase,
+        page: Page(b[8]),
+        hops: b[9],
+        bytes: bytes::page_of(b),
+    }
+}
+
+fn none() -> PageRead
+    ensures { λ r. ⌜ r ≡ pageNone ⌝ }
+{
+    PageRead {
+        phase: Phase::Begin,
+        page: Page(0),
+        hops: 0,
+        bytes: [0; 32],
     }
 }
 
@@ -142,10 +135,18 @@ pub fn unpack(bytes: &[u8]) -> Unpacked
     ensures judged { λ r. ⌜ judgedTold (r .judged) ≡ pageJudged (now (bytes .entry)) ⌝ }
     ensures state { λ r. ⌜ r .state ≡ pageReadOf (now (bytes .entry)) ⌝ }
 {
-    let state = state_of(bytes);
-    let array = state.bytes;
-    let judged = front::judge(front_of_state(state), &array, bytes);
-    Unpacked { judged, state }
+    if bytes.len() != 48 {
+        return Unpacked {
+            judged: Judged::Refused(Refusal::StateRange),
+            state: none(),
+        };
+    }
+    let found = phase_at(bytes);
+    let phase = found.1;
+    Unpacked {
+        judged: bytes::judge(bytes::both(found.0, bytes::zeros(bytes, 10, 16))),
+        state: state_at(bytes, phase),
+    }
 }
 
 // A state into a buffer of 48 bytes. Refused: 10. What is left there holds that state and is accepted by unpack.
@@ -155,6 +156,11 @@ pub fn pack(state: PageRead, bytes: &mut [u8]) -> Judged
     ensures back { λ r. ⌜ pageReadOf (pageReadBytes state) ≡ state ⌝ }
     ensures kept { λ r. ⌜ isPageState (pageReadBytes state) ≡ true ⌝ }
 {
+    let phase = state.phase;
+    let page = state.page;
     let array = state.bytes;
-    front::put(front_of_state(state), &array, bytes)
+    let mut front = front_of(phase);
+    front[8] = page.0;
+    front[9] = state.hops;
+    bytes::put(front, &array, bytes)
 }

@@ -1,15 +1,19 @@
-// The publisher's state as 48 bytes: the front, and the new bytes. specs/Publisher.antt has the layout of the front.
+// The publisher's state as 48 bytes: specs/Publisher.antt has the layout.
 ghost use mathlib.Core.Path.{_≡_};
 ghost use mathlib.Core.Bool.{true};
-ghost use Rattle.terms.specs.Bits.{one};
+ghost use mathlib.Core.List.{[]};
+ghost use lib.ListN.{length};
 ghost use Rattle.terms.specs.Told.{judgedTold};
-ghost use Rattle.packing.specs.Publisher.{runningFront, stageFront, frontStage, placed, publisherFront, publisherBytes, publisherOf, isPublisherState, publisherJudged, publisherPacked, publisherBuffer};
-use crate::front;
-use crate::front::Front;
+ghost use Rattle.packing.specs.Bytes.{front};
+ghost use Rattle.packing.specs.Publisher.{stageBytes, stageFound, publisherAt, publisherNone, publisherBytes, publisherOf, isPublisherState};
+ghost use Rattle.packing.specs.Publisher.{publisherJudged, publisherPacked, publisherBuffer};
+use crate::bytes;
 use publisher::Publisher;
 use publisher::Stage;
 use terms::address::Page;
+use terms::refusal;
 use terms::refusal::Judged;
+use terms::refusal::Refusal;
 use terms::write_mode::WriteMode;
 
 // The state that bytes hold, with 2 where they hold none.
@@ -18,90 +22,76 @@ pub struct Unpacked {
     pub state: Publisher,
 }
 
-fn one_of(bit: bool) -> u8
-    ensures { λ r. ⌜ r ≡ one bit ⌝ }
-{
-    if bit { 1 } else { 0 }
-}
+// What stands in bytes, and whether those from its place to the end of the enum's are its own.
+pub struct StageFound(pub bool, pub Stage);
 
-fn front_of_running(k: u16, good: bool) -> Front
-    ensures { λ r. ⌜ r ≡ runningFront k good ⌝ }
-{
-    Front {
-        kind: 0,
-        what: one_of(good),
-        count: 0,
-        which: 0,
-        value: 0,
-        page: 0,
-        other: 0,
-        first: k,
-        second: 0,
-        third: 0,
-    }
-}
-
-fn front_of_stage(stage: Stage) -> Front
-    ensures { λ r. ⌜ r ≡ stageFront stage ⌝ }
+fn front_of(stage: Stage) -> [u8; 16]
+    ensures { λ r. ⌜ r ≡ front 8 (stageBytes stage) [] ⌝ }
 {
     match stage {
-        Stage::Running(k, good) => front_of_running(k, good),
-        Stage::Done => front::of_bytes(1, 0, 0, 0, 0),
-        Stage::Stopped(refusal) => front::of_stop(2, refusal),
+        Stage::Running(k, good) => {
+            let l = bytes::low(k);
+            let h = bytes::high(k);
+            let g = bytes::number_of_flag(good);
+            [0, l, h, g, 0, 0, 0, 0, 0, 0, 0, 0, 0, 0, 0, 0]
+        }
+        Stage::Done => [1, 0, 0, 0, 0, 0, 0, 0, 0, 0, 0, 0, 0, 0, 0, 0],
+        Stage::Stopped(r) => {
+            let n = refusal::number(r);
+            let v = bytes::value_of(r);
+            [2, n, v, 0, 0, 0, 0, 0, 0, 0, 0, 0, 0, 0, 0, 0]
+        }
     }
 }
 
-// A front that is that of no stage counts as a stage that has another front.
-fn stage_of(f: Front) -> Stage
-    ensures { λ r. ⌜ r ≡ frontStage f ⌝ }
+fn stage_at(b: &[u8]) -> StageFound
+    requires { ⌜ length (now b) ≡ 48 ⌝ }
+    ensures { λ r. ⌜ r ≡ stageFound (now (b .entry)) ⌝ }
 {
-    let kind = f.kind;
-    match kind {
-        1 => Stage::Done,
-        2 => Stage::Stopped(front::refusal_of(f.which, f.value)),
-        _ => Stage::Running(f.first, f.what == 1),
+    let x = b[1];
+    let y = b[2];
+    let z = b[3];
+    match b[0] {
+        0 => StageFound(
+            bytes::both(z < 2, bytes::zeros(b, 4, 8)),
+            Stage::Running(bytes::join(x, y), z == 1),
+        ),
+        1 => StageFound(bytes::zeros(b, 1, 8), Stage::Done),
+        2 => {
+            let f = bytes::refusal_at(x, y);
+            let r = f.1;
+            StageFound(bytes::both(f.0, bytes::zeros(b, 3, 8)), Stage::Stopped(r))
+        }
+        _ => StageFound(false, Stage::Done),
     }
 }
 
-// The mode, L, T and T's bitmap byte in the front of a stage.
-fn place(f: Front, mode: WriteMode, last: Page, target: Page, used: u8) -> Front
-    ensures { λ r. ⌜ r ≡ placed f mode last target used ⌝ }
-{
-    Front {
-        kind: f.kind,
-        what: f.what,
-        count: used,
-        which: f.which,
-        value: f.value,
-        page: last.0,
-        other: target.0,
-        first: f.first,
-        second: front::number_of_mode(mode) as u16,
-        third: f.third,
-    }
-}
+// ---- the entries
 
-fn front_of_state(state: Publisher) -> Front
-    ensures { λ r. ⌜ r ≡ publisherFront state ⌝ }
+fn state_at(b: &[u8], stage: Stage) -> Publisher
+    requires { ⌜ length (now b) ≡ 48 ⌝ }
+    ensures { λ r. ⌜ r ≡ publisherAt (now (b .entry)) stage ⌝ }
 {
-    let mode = state.mode;
-    let stage = state.stage;
-    let last = state.last;
-    let target = state.target;
-    place(front_of_stage(stage), mode, last, target, state.used)
-}
-
-fn state_of(bytes: &[u8]) -> Publisher
-    ensures { λ r. ⌜ r ≡ publisherOf (now (bytes .entry)) ⌝ }
-{
-    let f = front::front_of(bytes);
     Publisher {
-        mode: front::mode_of(f.second),
-        stage: stage_of(f),
-        last: Page(f.page),
-        target: Page(f.other),
-        used: f.count,
-        new: front::page_of(bytes),
+        mode: bytes::mode_of(b[11]),
+        stage,
+        last: Page(b[8]),
+        target: Page(b[9]),
+        used: b[10],
+        new: bytes::page_of(b),
+    }
+}
+
+fn none() -> Publisher
+    ensures { λ r. ⌜ r ≡ publisherNone ⌝ }
+{
+    Publisher {
+        mode: WriteMode::Ordinary,
+        stage: Stage::Done,
+        last: Page(0),
+        target: Page(0),
+        used: 0,
+        new: [0; 32],
     }
 }
 
@@ -111,10 +101,21 @@ pub fn unpack(bytes: &[u8]) -> Unpacked
     ensures judged { λ r. ⌜ judgedTold (r .judged) ≡ publisherJudged (now (bytes .entry)) ⌝ }
     ensures state { λ r. ⌜ r .state ≡ publisherOf (now (bytes .entry)) ⌝ }
 {
-    let state = state_of(bytes);
-    let array = state.new;
-    let judged = front::judge(front_of_state(state), &array, bytes);
-    Unpacked { judged, state }
+    if bytes.len() != 48 {
+        return Unpacked {
+            judged: Judged::Refused(Refusal::StateRange),
+            state: none(),
+        };
+    }
+    let found = stage_at(bytes);
+    let stage = found.1;
+    Unpacked {
+        judged: bytes::judge(bytes::both(
+            found.0,
+            bytes::both(bytes[11] < 2, bytes::zeros(bytes, 12, 16)),
+        )),
+        state: state_at(bytes, stage),
+    }
 }
 
 // A state into a buffer of 48 bytes. Refused: 10. What is left there holds that state and is accepted by unpack.
@@ -124,6 +125,15 @@ pub fn pack(state: Publisher, bytes: &mut [u8]) -> Judged
     ensures back { λ r. ⌜ publisherOf (publisherBytes state) ≡ state ⌝ }
     ensures kept { λ r. ⌜ isPublisherState (publisherBytes state) ≡ true ⌝ }
 {
+    let mode = state.mode;
+    let stage = state.stage;
+    let last = state.last;
+    let target = state.target;
     let array = state.new;
-    front::put(front_of_state(state), &array, bytes)
+    let mut front = front_of(stage);
+    front[8] = last.0;
+    front[9] = target.0;
+    front[10] = state.used;
+    front[11] = bytes::number_of_mode(mode);
+    bytes::put(front, &array, bytes)
 }

@@ -1,25 +1,13 @@
-use mathlib.Core.Path.{_∙_}
-use Rattle.packing.specs.Chip.{romFront}
+use Rattle.packing.specs.Chip.{romBytes}
 use borrow.Author.Needs.{needs}
 use Rattle.packing.proofs.chip_state.front_of_rom.Statement.{statement}
 use Rattle.packing.proofs.chip_state.front_of_rom.Tie as tie
 
-returns : tie.Need-returns
-unfolding romFront
-returns c = simp (c .before .before .stage .given .1) (c .of-bytes .ensures)
-
-returns-2 : tie.Need-returns-2
-unfolding romFront
-returns-2 c = simp (c .before .before .before .stage2 .given .1) (c .of-bytes2 .ensures ∙ simp (c .before .number-of-step .ensures))
-
 pub front-of-rom-spec : {M : Type 1} → statement M
+unfolding romBytes
 front-of-rom-spec =
     tie.close
     (tie.spec
-    (λ c. search needs)
-    (λ c κs. search needs)
-    (λ c. search needs)
-    (λ c κs. search needs)
-    (λ c κs. search needs)
-    returns
-    returns-2)
+    (λ c. search needs) (λ c. search needs) (λ c κs. search needs)
+    (λ c. simp (c .before .stage .given .1))
+    (λ c. simp (c .before .before .stage2 .given .1, c .number-of-step .ensures)))

@@ -1,29 +1,27 @@
-use mathlib.Core.Path.{_≡_}
+use Rattle.packing.specs.Bytes.{modeByte}
+use Rattle.packing.proofs.Laws.{stored}
+use Rattle.packing.proofs.Publisher.{publisher-packing}
+use Rattle.packing.specs.Publisher.{stageBytes, publisherBytes, isPublisherState, publisherPacked, publisherBuffer}
 use lib.ListN.{length}
-use Rattle.packing.specs.Front.{laid, frontAt}
-use Rattle.packing.specs.Publisher.{publisherFront, publisherBytes, publisherPacked, publisherBuffer}
-use Rattle.packing.proofs.Publisher.{publisher-back, publisher-kept}
+use mathlib.Core.Path.{_≡_}
 use borrow.Author.Needs.{needs}
 use Rattle.packing.proofs.publisher_state.pack.Statement.{statement}
 use Rattle.packing.proofs.publisher_state.pack.Tie as tie
 
-returns : tie.Need-returns
-unfolding publisherPacked publisherBuffer publisherBytes
-returns c =
-    let put = c .before .before .put in
-    let f = c .before .before .before .before .before .front-of-state in
-    let start = c .before .before .before .before .before .before .before .before in
-    let state = start .args .state in
-    let len : length (state .new) ≡ 32 = search (needs, start .good .0 .1 .1 .1 .1 .1 .1 .1) in
-    let held : frontAt (laid (publisherFront state)) ≡ publisherFront state = rw (f .ensures) at (put .ensures .1 .1) in
-    (rw len at (put .ensures .0), (rw (len, f .ensures) at (put .ensures .1 .0), (publisher-back state held len, publisher-kept state held len)))
-
 pub pack-spec : {M : Type 1} → statement M
+unfolding publisherPacked publisherBuffer publisherBytes isPublisherState
 pack-spec =
     tie.close
     (tie.spec
-    (λ c κs. search needs)
-    (λ c. search needs)
-    (λ c κs. search needs)
-    (λ c. search needs)
-    returns)
+    (λ c κs. search needs) (λ c. search needs) (λ c. search needs) (λ c. search needs) (λ c κs. search needs) (λ c. search needs)
+    (λ c. search needs) (λ c κs. search needs) (λ c. search needs)
+    (λ c.
+    let put = c .before .before .put in
+    let f = c .before .before .before .before .before .before .front-of in
+    let state = c .before .before .before .before .before .before .before .before .before .before .before .args .state in
+    let enum = stageBytes (state .stage) in
+    let len : length (state .new) ≡ 32 = search needs in
+    let mode = c .before .before .before .before .before .number-of-mode .ensures in
+    let pages = rw (len, f .ensures, stored 8 0 (state .last .0) enum _, stored 8 1 (state .target .0) enum _) at (put .ensures .1) in
+    let filled = rw (stored 8 2 (state .used) enum _, mode, stored 8 3 (modeByte (state .mode)) enum _) at pages in
+    (rw len at (put .ensures .0), (filled, (publisher-packing .state-back state len, publisher-packing .state-kept state len)))))
