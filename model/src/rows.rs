@@ -59,71 +59,84 @@ fn read_text(chip: &mut Chip, count: usize) -> String {
     bytes_text(&bytes_of(&bits))
 }
 
-/// A chip after a reset, Skip ROM and these bytes.
-fn begun(image: Vec<u8>, bytes: &[u8]) -> Chip {
-    let mut chip = Chip::power_up([0; 8], image).expect("the image has its length");
+/// Reset, Skip ROM and these bytes.
+fn begin(chip: &mut Chip, bytes: &[u8]) {
     chip.event(Event::Reset);
-    send(&mut chip, &[0xCC]);
-    send(&mut chip, bytes);
-    chip
+    send(chip, &[0xCC]);
+    send(chip, bytes);
 }
 
-/// Bytes written at data address 25h, on page 1; the last two with a bit of the
-/// start address set that the chip drops. A quick write has no CRC.
-fn writes() -> String {
-    let mut text = String::new();
-    for (mode, high, old, sent, protected) in [
-        (WriteMode::Quick, 0x00, 0xF0, 0x0F, false),
-        (WriteMode::Quick, 0x00, 0x5A, 0xFF, false),
-        (WriteMode::Quick, 0x00, 0x5A, 0x0F, true),
-        (WriteMode::Quick, 0x08, 0xF0, 0x0F, false),
-        (WriteMode::Ordinary, 0x08, 0xF0, 0x0F, false),
+/// What is read from a data address by Read Memory.
+fn held(chip: &mut Chip, address: u8) -> String {
+    begin(chip, &[0xF0, address, 0x00]);
+    read_text(chip, 1)
+}
+
+/// A chip with bytes at data addresses 000h, 025h, 045h, 065h and 7FFh; page 3,
+/// where 065h is, is protected.
+fn plug() -> Chip {
+    let mut image = blank_image();
+    for (address, byte) in [
+        (0x000, 0x3C),
+        (0x025, 0xF0),
+        (0x045, 0x5A),
+        (0x065, 0x5A),
+        (0x7FF, 0x5A),
     ] {
-        let command = MemoryCommand::WriteMemory(mode).byte();
-        let quick = mode_text(mode);
-        let mut image = blank_image();
-        image[0x25] = old;
-        if protected {
-            image[DATA_LENGTH] = 0xFD;
-        }
-        let mut chip = begun(image, &[command, 0x25, high, sent]);
-        let crc = match mode {
-            WriteMode::Ordinary => format!(" crc{},", read_text(&mut chip, 2)),
-            WriteMode::Quick => String::new(),
-        };
-        chip.event(Event::Pulse);
-        let back = read_text(&mut chip, 1);
-        let held = bytes_text(&chip.image[0x25..0x26]);
-        let protected = if protected { "a protected " } else { "" };
-        let start = if high == 0 { "" } else { " from start 08 25" };
-        text += &format!(
-            "{quick}{sent:02x} written over {protected}{old:02x}{start}:{crc} read back{back}, held{held}\n"
-        );
+        image[address] = byte;
     }
-    text
+    image[DATA_LENGTH] = !(1 << 3);
+    Chip::power_up([0; 8], image).expect("the image has its length")
 }
 
 /// What is read after a start address: a byte, its CRC, then ones; ones alone
 /// where the memory does not have the address; with bits set that the chip
 /// drops, what follows the address without them.
-fn starts() -> String {
-    let mut image = blank_image();
-    image[0x000] = 0x3C;
-    image[0x7FF] = 0x5A;
+fn reads() -> String {
     let mut text = String::new();
-    for (command, high, low) in [
-        (0xF0, 0x07, 0xFF),
-        (0xF0, 0x08, 0x00),
-        (0xF0, 0xFF, 0xFF),
-        (0xA5, 0x08, 0x00),
-        (0xAA, 0x01, 0x3F),
-        (0xAA, 0x01, 0x40),
-        (0xAA, 0x09, 0x3F),
-        (0xAA, 0x09, 0x40),
+    for (name, command, start) in [
+        ("read memory", 0xF0, 0x07FFu16),
+        ("read memory", 0xF0, 0x0800),
+        ("read memory", 0xF0, 0xFFFF),
+        ("extended read", 0xA5, 0x0800),
+        ("read status", 0xAA, 0x013F),
+        ("read status", 0xAA, 0x0140),
+        ("read status", 0xAA, 0x093F),
+        ("read status", 0xAA, 0x0940),
     ] {
-        let mut chip = begun(image.clone(), &[command, low, high]);
+        let mut chip = plug();
+        let [low, high] = start.to_le_bytes();
+        begin(&mut chip, &[command, low, high]);
         let read = read_text(&mut chip, 5);
-        text += &format!("command {command:02x} start {high:02x} {low:02x}:{read}\n");
+        text += &format!("{name} from {start:04x}:{read}\n");
+    }
+    text
+}
+
+/// Bytes written, read back, and then read by Read Memory; the last two with a
+/// bit of the start address set that the chip drops. A quick write has no CRC.
+fn writes() -> String {
+    let mut text = String::new();
+    for (words, mode, start, sent) in [
+        ("0f over f0", WriteMode::Quick, 0x0025u16, 0x0F),
+        ("ff over 5a", WriteMode::Quick, 0x0045, 0xFF),
+        ("0f over a protected 5a", WriteMode::Quick, 0x0065, 0x0F),
+        ("0f over f0 from 0825", WriteMode::Quick, 0x0825, 0x0F),
+        ("0f over f0 from 0825", WriteMode::Ordinary, 0x0825, 0x0F),
+    ] {
+        let mut chip = plug();
+        let [low, high] = start.to_le_bytes();
+        let command = MemoryCommand::WriteMemory(mode).byte();
+        begin(&mut chip, &[command, low, high, sent]);
+        let crc = match mode {
+            WriteMode::Ordinary => read_text(&mut chip, 2),
+            WriteMode::Quick => String::new(),
+        };
+        chip.event(Event::Pulse);
+        let back = read_text(&mut chip, 1);
+        let held = held(&mut chip, low);
+        let quick = mode_text(mode);
+        text += &format!("{quick}{words}:{crc}{back}{held}\n");
     }
     text
 }
@@ -131,45 +144,41 @@ fn starts() -> String {
 /// Two bytes by a quick write from a start address: the second beyond the
 /// last address, or both, or the start with a bit set that the chip drops.
 fn quick_starts() -> String {
-    let mut image = blank_image();
-    image[0x000] = 0x3C;
-    image[0x7FF] = 0x5A;
     let mut text = String::new();
-    for (command, high, low) in [
-        (0xF3, 0x07, 0xFF),
-        (0xF3, 0x08, 0x00),
-        (0xF5, 0x01, 0x3F),
-        (0xF5, 0x01, 0x40),
-        (0xF5, 0x09, 0x3F),
+    for (place, command, start) in [
+        ("", 0xF3, 0x07FFu16),
+        ("", 0xF3, 0x0800),
+        ("in status ", 0xF5, 0x013F),
+        ("in status ", 0xF5, 0x0140),
+        ("in status ", 0xF5, 0x093F),
     ] {
-        let mut chip = begun(image.clone(), &[command, low, high]);
+        let mut chip = plug();
+        let [low, high] = start.to_le_bytes();
+        begin(&mut chip, &[command, low, high]);
         let mut back = String::new();
         for sent in [0x0F, 0x33] {
             send(&mut chip, &[sent]);
             chip.event(Event::Pulse);
             back += &read_text(&mut chip, 1);
         }
-        text += &format!(
-            "command {command:02x} start {high:02x} {low:02x}, 0f 33 written: read back{back}\n"
-        );
+        text += &format!("quick, 0f and 33 {place}from {start:04x}:{back}\n");
     }
     text
 }
 
-/// A quick write of 0Fh over 5Ah at data address 25h, with its pulse after so
-/// many slots of data: one short, the whole byte, and one slot more.
+/// A quick write of 0Fh over 5Ah with its pulse after so many slots of data: one
+/// short, the whole byte, and one slot more; then the byte is read.
 fn quick_pulses() -> String {
     let mut text = String::new();
     for slots in [7, 8, 9] {
-        let mut image = blank_image();
-        image[0x25] = 0x5A;
-        let mut chip = begun(image, &[0xF3, 0x25, 0x00]);
+        let mut chip = plug();
+        begin(&mut chip, &[0xF3, 0x45, 0x00]);
         for &bit in &bits_of(&[0x0F, 0xFF])[..slots] {
             chip.event(Event::Slot(bit));
         }
         chip.event(Event::Pulse);
-        let held = bytes_text(&chip.image[0x25..0x26]);
-        text += &format!("quick, 0f over 5a with the pulse after {slots} slots: held{held}\n");
+        let held = held(&mut chip, 0x45);
+        text += &format!("quick, 0f over 5a, pulse after {slots} slots:{held}\n");
     }
     text
 }
@@ -258,7 +267,7 @@ fn protected(mode: WriteMode) -> String {
 /// What the program `plug_rows` writes.
 pub fn text() -> String {
     [
-        starts(),
+        reads(),
         writes(),
         quick_starts(),
         quick_pulses(),

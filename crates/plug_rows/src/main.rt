@@ -6,12 +6,10 @@ use libc::STDOUT_FILENO;
 use number_read::Answer;
 use number_read::NumberRead;
 use terms::address::Page;
-use terms::address::Space;
 use terms::bits;
 use terms::refusal::Given;
 use terms::refusal::Refusal;
 use terms::verdict::Verdict;
-use terms::write_mode;
 use terms::write_mode::WriteMode;
 use update::Updated;
 
@@ -122,26 +120,6 @@ fn send_only(state: State, byte: u8, image: &mut [u8; 2368]) -> State {
     heard.state
 }
 
-// One event, as its code.
-fn event(state: State, code: u8, image: &mut [u8; 2368]) -> State {
-    let mut reply = [0u8; 1];
-    let ran = chip::event::run(state, &[code], image, &mut reply);
-    ran.state
-}
-
-const RESET: u8 = 2;
-
-const PULSE: u8 = 3;
-
-// A chip after a reset, Skip ROM, a command and a start address.
-fn begin(command: u8, high: u8, low: u8, image: &mut [u8; 2368]) -> State {
-    let reset = event(chip::event::power_up([0u8; 8]), RESET, image);
-    let skipped = send_only(reset, 0xCC, image);
-    let commanded = send_only(skipped, command, image);
-    let half = send_only(commanded, low, image);
-    send_only(half, high, image)
-}
-
 // A byte is read and told.
 fn say_next(state: State, image: &mut [u8; 2368]) -> State {
     let heard = send(state, 0xFF, image);
@@ -149,161 +127,125 @@ fn say_next(state: State, image: &mut [u8; 2368]) -> State {
     heard.state
 }
 
-fn say_start(command: u8, high: u8, low: u8) {
-    say(b"command");
-    say_byte(command);
-    say(b" start");
-    say_byte(high);
-    say_byte(low);
+// ---- sessions of a chip, as scripts
+
+// A step of a script is a byte to send, a byte to read and tell, or an event: a slot with 0 or 1, a pulse (200h and the event's code).
+const READ: u16 = 0x100;
+
+const O: u16 = 0x200;
+
+const I: u16 = 0x201;
+
+const PULSE: u16 = 0x203;
+
+fn event(state: State, code: u8, image: &mut [u8; 2368]) -> State {
+    let mut reply = [0u8; 1];
+    let ran = chip::event::run(state, &[code], image, &mut reply);
+    ran.state
 }
 
-// ---- reads
+fn step(state: State, what: u16, image: &mut [u8; 2368]) -> State {
+    let low = (what % 256) as u8;
+    match what {
+        0..=255 => send_only(state, low, image),
+        256 => say_next(state, image),
+        _ => event(state, low, image),
+    }
+}
 
-// A blank image with bytes at the first and the last data address.
-fn with_ends() -> [u8; 2368] {
+fn steps(start: State, script: &[u16], image: &mut [u8; 2368]) {
+    let mut state = start;
+    for i in 0..script.len() {
+        state = step(state, script[i], image);
+    }
+}
+
+// The steps, after a reset and Skip ROM.
+fn play(script: &[u16], image: &mut [u8; 2368]) {
+    let reset = event(chip::event::power_up([0u8; 8]), 2, image);
+    steps(send_only(reset, 0xCC, image), script, image);
+}
+
+// A blank image with 3Ch at data address 000h, F0h at 025h, 5Ah at 045h, at 065h, on page 3, which is protected, and at 7FFh.
+fn plug() -> [u8; 2368] {
     let mut image = [0xFFu8; 2368];
     image[0x000] = 0x3C;
+    image[0x025] = 0xF0;
+    image[0x045] = 0x5A;
+    image[0x065] = 0x5A;
     image[0x7FF] = 0x5A;
+    image[0x800] = 0xF7;
     image
 }
 
-// Five bytes are read after a start address.
-fn read_from(command: u8, high: u8, low: u8) {
-    let mut image = with_ends();
-    let start = begin(command, high, low, &mut image);
-    say_start(command, high, low);
+// One script and then another, and the bytes read in them.
+fn row(words: &[u8], first: &[u16], second: &[u16]) {
+    let mut image = plug();
+    say(words);
     say(b":");
-    let a = say_next(start, &mut image);
-    let b = say_next(a, &mut image);
-    let c = say_next(b, &mut image);
-    let d = say_next(c, &mut image);
-    say_next(d, &mut image);
+    play(first, &mut image);
+    play(second, &mut image);
     say(b"\n");
+}
+
+// Five bytes are read.
+fn read_row(words: &[u8], command: u16, low: u16, high: u16) {
+    let script = [command, low, high, READ, READ, READ, READ, READ];
+    row(words, &script, &[]);
 }
 
 // A byte, its CRC, then ones; ones alone where the memory does not have the address; and the same with bits set that the chip drops.
 fn reads() {
-    read_from(0xF0, 0x07, 0xFF);
-    read_from(0xF0, 0x08, 0x00);
-    read_from(0xF0, 0xFF, 0xFF);
-    read_from(0xA5, 0x08, 0x00);
-    read_from(0xAA, 0x01, 0x3F);
-    read_from(0xAA, 0x01, 0x40);
-    read_from(0xAA, 0x09, 0x3F);
-    read_from(0xAA, 0x09, 0x40);
+    read_row(b"read memory from 07ff", 0xF0, 0xFF, 0x07);
+    read_row(b"read memory from 0800", 0xF0, 0x00, 0x08);
+    read_row(b"read memory from ffff", 0xF0, 0xFF, 0xFF);
+    read_row(b"extended read from 0800", 0xA5, 0x00, 0x08);
+    read_row(b"read status from 013f", 0xAA, 0x3F, 0x01);
+    read_row(b"read status from 0140", 0xAA, 0x40, 0x01);
+    read_row(b"read status from 093f", 0xAA, 0x3F, 0x09);
+    read_row(b"read status from 0940", 0xAA, 0x40, 0x09);
 }
 
-// ---- writes
-
-// The CRC is read and told where the mode has one.
-fn say_crc(mode: WriteMode, state: State, image: &mut [u8; 2368]) -> State {
-    match mode {
-        WriteMode::Ordinary => {
-            say(b" crc");
-            let low = say_next(state, image);
-            let high = say_next(low, image);
-            say(b",");
-            high
-        }
-        WriteMode::Quick => state,
-    }
+// A quick write of a byte, which is read back and then read by Read Memory.
+fn quick_row(words: &[u8], low: u16, high: u16, byte: u16) {
+    let script = [0xF3u16, low, high, byte, PULSE, READ];
+    row(words, &script, &[0xF0, low, 0x00, READ]);
 }
 
-// 0Fh or another byte is written at data address 25h, on page 1, where the image holds another; `protection` is status byte 000h.
-fn write(mode: WriteMode, words: &[u8], high: u8, old: u8, sent: u8, protection: u8) {
-    let mut image = [0xFFu8; 2368];
-    image[0x25] = old;
-    image[2048] = protection;
-    say_mode(mode);
-    say(words);
-    say(b":");
-    let begun = begin(
-        write_mode::command(mode, Space::Data),
-        high,
-        0x25,
-        &mut image,
-    );
-    let told = send_only(begun, sent, &mut image);
-    let armed = say_crc(mode, told, &mut image);
-    let written = event(armed, PULSE, &mut image);
-    say(b" read back");
-    say_next(written, &mut image);
-    say(b", held");
-    say_byte(image[0x25]);
-    say(b"\n");
-}
-
-// The last two have a bit of the start address set that the chip drops.
+// 0825h has a bit set that the chip drops. The ordinary write has its CRC too.
 fn writes() {
-    let quick = WriteMode::Quick;
-    write(quick, b"0f written over f0", 0x00, 0xF0, 0x0F, 0xFF);
-    write(quick, b"ff written over 5a", 0x00, 0x5A, 0xFF, 0xFF);
-    write(
-        quick,
-        b"0f written over a protected 5a",
-        0x00,
-        0x5A,
-        0x0F,
-        0xFD,
-    );
-    let dropped = b"0f written over f0 from start 08 25";
-    write(quick, dropped, 0x08, 0xF0, 0x0F, 0xFF);
-    write(WriteMode::Ordinary, dropped, 0x08, 0xF0, 0x0F, 0xFF);
+    quick_row(b"quick, 0f over f0", 0x25, 0x00, 0x0F);
+    quick_row(b"quick, ff over 5a", 0x45, 0x00, 0xFF);
+    quick_row(b"quick, 0f over a protected 5a", 0x65, 0x00, 0x0F);
+    quick_row(b"quick, 0f over f0 from 0825", 0x25, 0x08, 0x0F);
+    let script = [0x0Fu16, 0x25, 0x08, 0x0F, READ, READ, PULSE, READ];
+    row(b"0f over f0 from 0825", &script, &[0xF0, 0x25, 0x00, READ]);
 }
 
-// A byte by a quick write, and what is read back.
-fn quick_byte(state: State, byte: u8, image: &mut [u8; 2368]) -> State {
-    let armed = send_only(state, byte, image);
-    say_next(event(armed, PULSE, image), image)
-}
-
-// Two bytes by a quick write from a start address.
-fn quick_from(command: u8, high: u8, low: u8) {
-    let mut image = with_ends();
-    say_start(command, high, low);
-    say(b", 0f 33 written: read back");
-    let begun = begin(command, high, low, &mut image);
-    quick_byte(quick_byte(begun, 0x0F, &mut image), 0x33, &mut image);
-    say(b"\n");
+// Two bytes by a quick write, each read back.
+fn two_row(words: &[u8], command: u16, low: u16, high: u16) {
+    let script = [command, low, high, 0x0F, PULSE, READ, 0x33, PULSE, READ];
+    row(words, &script, &[]);
 }
 
 // The second byte beyond the last address, or both, or the start with a bit set that the chip drops.
 fn quick_starts() {
-    quick_from(0xF3, 0x07, 0xFF);
-    quick_from(0xF3, 0x08, 0x00);
-    quick_from(0xF5, 0x01, 0x3F);
-    quick_from(0xF5, 0x01, 0x40);
-    quick_from(0xF5, 0x09, 0x3F);
+    two_row(b"quick, 0f and 33 from 07ff", 0xF3, 0xFF, 0x07);
+    two_row(b"quick, 0f and 33 from 0800", 0xF3, 0x00, 0x08);
+    two_row(b"quick, 0f and 33 in status from 013f", 0xF5, 0x3F, 0x01);
+    two_row(b"quick, 0f and 33 in status from 0140", 0xF5, 0x40, 0x01);
+    two_row(b"quick, 0f and 33 in status from 093f", 0xF5, 0x3F, 0x09);
 }
 
-// So many slots, in which the bits of 0Fh come again and again.
-fn send_slots(start: State, slots: u8, image: &mut [u8; 2368]) -> State {
-    let mut state = start;
-    for i in 0..slots {
-        state = event(state, bits::byte(bits::at(0x0F, i)), image);
-    }
-    state
-}
-
-// A quick write of 0Fh over 5Ah at data address 25h, with its pulse after so many slots.
-fn quick_pulse(slots: u8) {
-    let mut image = [0xFFu8; 2368];
-    image[0x25] = 0x5A;
-    let begun = begin(0xF3, 0x00, 0x25, &mut image);
-    let sent = send_slots(begun, slots, &mut image);
-    event(sent, PULSE, &mut image);
-    say(b"quick, 0f over 5a with the pulse after ");
-    say_decimal(slots as u64);
-    say(b" slots: held");
-    say_byte(image[0x25]);
-    say(b"\n");
-}
-
-// One short, the whole byte, and one slot more.
+// The pulse comes one slot early, in its place, and one slot late; then the byte is read.
 fn quick_pulses() {
-    quick_pulse(7);
-    quick_pulse(8);
-    quick_pulse(9);
+    let held = [0xF0u16, 0x45, 0x00, READ];
+    let seven = [0xF3u16, 0x45, 0x00, I, I, I, I, O, O, O, PULSE];
+    row(b"quick, 0f over 5a, pulse after 7 slots", &seven, &held);
+    let eight = [0xF3u16, 0x45, 0x00, I, I, I, I, O, O, O, O, PULSE];
+    row(b"quick, 0f over 5a, pulse after 8 slots", &eight, &held);
+    let nine = [0xF3u16, 0x45, 0x00, I, I, I, I, O, O, O, O, I, PULSE];
+    row(b"quick, 0f over 5a, pulse after 9 slots", &nine, &held);
 }
 
 // ---- the number
@@ -311,12 +253,12 @@ fn quick_pulses() {
 // The codes of the 74 events of a number read: reset, 33h, 64 read slots, reset.
 fn number_events() -> [u8; 74] {
     let mut codes = [1u8; 74];
-    codes[0] = RESET;
+    codes[0] = 2;
     codes[3] = 0;
     codes[4] = 0;
     codes[7] = 0;
     codes[8] = 0;
-    codes[73] = RESET;
+    codes[73] = 2;
     codes
 }
 
