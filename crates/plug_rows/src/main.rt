@@ -1,5 +1,6 @@
 // The rows of the test tray that are run, those of 01 without a star and those that M-100, M-101 and M-104 added, and Application Note 27's
 // values, in plain text. A second program, written from the papers alone, must write the same.
+use bus::Event;
 use chip::event::State;
 use chip::walk::Walked;
 use libc::STDOUT_FILENO;
@@ -79,40 +80,32 @@ struct Heard {
     byte: u8,
 }
 
-// The codes of the eight slots with these bits.
-fn slots_of(byte: u8) -> [u8; 8] {
-    [
-        bits::byte(bits::at(byte, 0)),
-        bits::byte(bits::at(byte, 1)),
-        bits::byte(bits::at(byte, 2)),
-        bits::byte(bits::at(byte, 3)),
-        bits::byte(bits::at(byte, 4)),
-        bits::byte(bits::at(byte, 5)),
-        bits::byte(bits::at(byte, 6)),
-        bits::byte(bits::at(byte, 7)),
-    ]
+// The line that an event drew.
+fn line_of(answer: chip::event::Answer) -> bool {
+    match answer {
+        chip::event::Answer::Reply(bit) => bit,
+        chip::event::Answer::Refused(_) => true,
+    }
 }
 
-fn byte_of(replies: [u8; 8]) -> u8 {
-    let a = bits::shift_in(0, replies[0] == 1);
-    let b = bits::shift_in(a, replies[1] == 1);
-    let c = bits::shift_in(b, replies[2] == 1);
-    let d = bits::shift_in(c, replies[3] == 1);
-    let e = bits::shift_in(d, replies[4] == 1);
-    let f = bits::shift_in(e, replies[5] == 1);
-    let g = bits::shift_in(f, replies[6] == 1);
-    bits::shift_in(g, replies[7] == 1)
+fn slot(heard: Heard, bit: bool, image: &mut [u8; 2368]) -> Heard {
+    let stepped = chip::event::event(heard.state, Event::Slot(bit), image);
+    let answer = stepped.answer;
+    let state = stepped.state;
+    let byte = bits::shift_in(heard.byte, line_of(answer));
+    Heard { state, byte }
 }
 
 // Eight slots with the bits of a byte; with FFh they are read slots.
-fn send(state: State, byte: u8, image: &mut [u8; 2368]) -> Heard {
-    let mut replies = [0u8; 8];
-    let ran = chip::event::run(state, &slots_of(byte), image, &mut replies);
-    let next = ran.state;
-    Heard {
-        state: next,
-        byte: byte_of(replies),
+fn send(start: State, byte: u8, image: &mut [u8; 2368]) -> Heard {
+    let mut heard = Heard {
+        state: start,
+        byte: 0,
+    };
+    for i in 0..8 {
+        heard = slot(heard, bits::at(byte, i), image);
     }
+    heard
 }
 
 fn send_only(state: State, byte: u8, image: &mut [u8; 2368]) -> State {
@@ -138,10 +131,9 @@ const I: u16 = 0x201;
 
 const PULSE: u16 = 0x203;
 
-fn event(state: State, code: u8, image: &mut [u8; 2368]) -> State {
-    let mut reply = [0u8; 1];
-    let ran = chip::event::run(state, &[code], image, &mut reply);
-    ran.state
+fn event(state: State, e: Event, image: &mut [u8; 2368]) -> State {
+    let stepped = chip::event::event(state, e, image);
+    stepped.state
 }
 
 fn step(state: State, what: u16, image: &mut [u8; 2368]) -> State {
@@ -149,7 +141,7 @@ fn step(state: State, what: u16, image: &mut [u8; 2368]) -> State {
     match what {
         0..=255 => send_only(state, low, image),
         256 => say_next(state, image),
-        _ => event(state, low, image),
+        _ => event(state, bus::event_of(low), image),
     }
 }
 
@@ -162,7 +154,7 @@ fn steps(start: State, script: &[u16], image: &mut [u8; 2368]) {
 
 // The steps, after a reset and Skip ROM.
 fn play(script: &[u16], image: &mut [u8; 2368]) {
-    let reset = event(chip::event::power_up([0u8; 8]), 2, image);
+    let reset = event(chip::event::power_up([0u8; 8]), Event::Reset, image);
     steps(send_only(reset, 0xCC, image), script, image);
 }
 
