@@ -128,15 +128,15 @@ fn writes() -> String {
         let [low, high] = start.to_le_bytes();
         let command = MemoryCommand::WriteMemory(mode).byte();
         begin(&mut chip, &[command, low, high, sent]);
-        let crc = match mode {
-            WriteMode::Ordinary => read_text(&mut chip, 2),
-            WriteMode::Quick => String::new(),
+        let (with, crc) = match mode {
+            WriteMode::Ordinary => (", crc", read_text(&mut chip, 2)),
+            WriteMode::Quick => ("", String::new()),
         };
         chip.event(Event::Pulse);
         let back = read_text(&mut chip, 1);
         let held = held(&mut chip, low);
         let quick = mode_text(mode);
-        text += &format!("{quick}{words}:{crc}{back}{held}\n");
+        text += &format!("{quick}{words}{with}, read back, read:{crc}{back}{held}\n");
     }
     text
 }
@@ -161,7 +161,7 @@ fn quick_starts() -> String {
             chip.event(Event::Pulse);
             back += &read_text(&mut chip, 1);
         }
-        text += &format!("quick, 0f and 33 {place}from {start:04x}:{back}\n");
+        text += &format!("quick, 0f and 33 {place}from {start:04x}, read back:{back}\n");
     }
     text
 }
@@ -178,7 +178,7 @@ fn quick_pulses() -> String {
         }
         chip.event(Event::Pulse);
         let held = held(&mut chip, 0x45);
-        text += &format!("quick, 0f over 5a, pulse after {slots} slots:{held}\n");
+        text += &format!("quick, 0f over 5a, pulse after {slots} slots, read:{held}\n");
     }
     text
 }

@@ -206,12 +206,26 @@ fn quick_row(words: &[u8], low: u16, high: u16, byte: u16) {
 
 // 0825h has a bit set that the chip drops. The ordinary write has its CRC too.
 fn writes() {
-    quick_row(b"quick, 0f over f0", 0x25, 0x00, 0x0F);
-    quick_row(b"quick, ff over 5a", 0x45, 0x00, 0xFF);
-    quick_row(b"quick, 0f over a protected 5a", 0x65, 0x00, 0x0F);
-    quick_row(b"quick, 0f over f0 from 0825", 0x25, 0x08, 0x0F);
+    quick_row(b"quick, 0f over f0, read back, read", 0x25, 0x00, 0x0F);
+    quick_row(b"quick, ff over 5a, read back, read", 0x45, 0x00, 0xFF);
+    quick_row(
+        b"quick, 0f over a protected 5a, read back, read",
+        0x65,
+        0x00,
+        0x0F,
+    );
+    quick_row(
+        b"quick, 0f over f0 from 0825, read back, read",
+        0x25,
+        0x08,
+        0x0F,
+    );
     let script = [0x0Fu16, 0x25, 0x08, 0x0F, READ, READ, PULSE, READ];
-    row(b"0f over f0 from 0825", &script, &[0xF0, 0x25, 0x00, READ]);
+    row(
+        b"0f over f0 from 0825, crc, read back, read",
+        &script,
+        &[0xF0, 0x25, 0x00, READ],
+    );
 }
 
 // Two bytes by a quick write, each read back.
@@ -222,22 +236,49 @@ fn two_row(words: &[u8], command: u16, low: u16, high: u16) {
 
 // The second byte beyond the last address, or both, or the start with a bit set that the chip drops.
 fn quick_starts() {
-    two_row(b"quick, 0f and 33 from 07ff", 0xF3, 0xFF, 0x07);
-    two_row(b"quick, 0f and 33 from 0800", 0xF3, 0x00, 0x08);
-    two_row(b"quick, 0f and 33 in status from 013f", 0xF5, 0x3F, 0x01);
-    two_row(b"quick, 0f and 33 in status from 0140", 0xF5, 0x40, 0x01);
-    two_row(b"quick, 0f and 33 in status from 093f", 0xF5, 0x3F, 0x09);
+    two_row(b"quick, 0f and 33 from 07ff, read back", 0xF3, 0xFF, 0x07);
+    two_row(b"quick, 0f and 33 from 0800, read back", 0xF3, 0x00, 0x08);
+    two_row(
+        b"quick, 0f and 33 in status from 013f, read back",
+        0xF5,
+        0x3F,
+        0x01,
+    );
+    two_row(
+        b"quick, 0f and 33 in status from 0140, read back",
+        0xF5,
+        0x40,
+        0x01,
+    );
+    two_row(
+        b"quick, 0f and 33 in status from 093f, read back",
+        0xF5,
+        0x3F,
+        0x09,
+    );
 }
 
 // The pulse comes one slot early, in its place, and one slot late; then the byte is read.
 fn quick_pulses() {
     let held = [0xF0u16, 0x45, 0x00, READ];
     let seven = [0xF3u16, 0x45, 0x00, I, I, I, I, O, O, O, PULSE];
-    row(b"quick, 0f over 5a, pulse after 7 slots", &seven, &held);
+    row(
+        b"quick, 0f over 5a, pulse after 7 slots, read",
+        &seven,
+        &held,
+    );
     let eight = [0xF3u16, 0x45, 0x00, I, I, I, I, O, O, O, O, PULSE];
-    row(b"quick, 0f over 5a, pulse after 8 slots", &eight, &held);
+    row(
+        b"quick, 0f over 5a, pulse after 8 slots, read",
+        &eight,
+        &held,
+    );
     let nine = [0xF3u16, 0x45, 0x00, I, I, I, I, O, O, O, O, I, PULSE];
-    row(b"quick, 0f over 5a, pulse after 9 slots", &nine, &held);
+    row(
+        b"quick, 0f over 5a, pulse after 9 slots, read",
+        &nine,
+        &held,
+    );
 }
 
 // ---- the number
