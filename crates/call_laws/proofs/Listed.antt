@@ -6,60 +6,17 @@ use mathlib.Core.Path.{_≡_, refl, sym, _∙_}
 use native.Mathlib.Omega.{arith}
 use lib.Dec.{ltb}
 use borrow.Author.Tests.{lt-ltb, le-leb, leb-true, ltb-true}
-use Rattle.terms.specs.Refusal.{numberOf, valuesOf}
 use Rattle.terms.specs.declared.write_mode.WriteMode.{WriteMode}
 use Rattle.terms.specs.declared.write_mode.WriteMode.the-variants.{Ordinary, Quick}
-use Rattle.terms.specs.declared.refusal.Refusal.{Refusal}
-use Rattle.terms.specs.declared.refusal.Refusal.the-variants.{ImageLength, StateRange, PageNumber, Loop, Outside, Crc16, ReadBack, NoFreePage, RedirectionProtected, BufferLength, Sheet, NoPresence, Crc8, Family, Header, Latitude, Column, NoValue, DataProtected}
 use Rattle.memory.specs.Layout.{isPage}
-use Rattle.master.proofs.Ranges.{both, beyond}
+use Rattle.master.proofs.Ranges.{both}
 use Rattle.plan.specs.Plan.{totalOf}
 use Rattle.publisher.specs.declared.Stage.{Stage}
 use Rattle.publisher.specs.declared.Stage.the-variants.{Running, Done, Stopped}
 use Rattle.publisher.specs.declared.Publisher.{Publisher}
-use Rattle.publisher.specs.Call.{readsCrc, isStop, stageInRange, inRange}
-use Rattle.call_laws.specs.Ranges.{mostReturned, stops, StageListed, Listed}
-
-stop-listed : (mode : WriteMode) (n : ℕ) (r : Refusal) → isStop mode n r ≡ stops mode n (numberOf r) (valuesOf r)
-unfolding isStop isPage readsCrc
-stop-listed Ordinary n ImageLength = refl
-stop-listed Ordinary n StateRange = refl
-stop-listed Ordinary n PageNumber = refl
-stop-listed Ordinary n Loop = refl
-stop-listed Ordinary n (Outside k) = beyond n k
-stop-listed Ordinary n Crc16 = refl
-stop-listed Ordinary n ReadBack = refl
-stop-listed Ordinary n NoFreePage = refl
-stop-listed Ordinary n (RedirectionProtected l) = refl
-stop-listed Ordinary n BufferLength = refl
-stop-listed Ordinary n Sheet = refl
-stop-listed Ordinary n NoPresence = refl
-stop-listed Ordinary n Crc8 = refl
-stop-listed Ordinary n Family = refl
-stop-listed Ordinary n Header = refl
-stop-listed Ordinary n Latitude = refl
-stop-listed Ordinary n Column = refl
-stop-listed Ordinary n NoValue = refl
-stop-listed Ordinary n (DataProtected l) = refl
-stop-listed Quick n ImageLength = refl
-stop-listed Quick n StateRange = refl
-stop-listed Quick n PageNumber = refl
-stop-listed Quick n Loop = refl
-stop-listed Quick n (Outside k) = beyond n k
-stop-listed Quick n Crc16 = refl
-stop-listed Quick n ReadBack = refl
-stop-listed Quick n NoFreePage = refl
-stop-listed Quick n (RedirectionProtected l) = refl
-stop-listed Quick n BufferLength = refl
-stop-listed Quick n Sheet = refl
-stop-listed Quick n NoPresence = refl
-stop-listed Quick n Crc8 = refl
-stop-listed Quick n Family = refl
-stop-listed Quick n Header = refl
-stop-listed Quick n Latitude = refl
-stop-listed Quick n Column = refl
-stop-listed Quick n NoValue = refl
-stop-listed Quick n (DataProtected l) = refl
+use Rattle.publisher.specs.Call.{stageInRange, inRange}
+use Rattle.call_laws.specs.Ranges.{mostReturned, StageListed, Listed}
+use Rattle.call_laws.proofs.Ranges.{stop-listed}
 
 most-is : (mode : WriteMode) → totalOf mode ≡ mostReturned mode
 most-is Ordinary = refl

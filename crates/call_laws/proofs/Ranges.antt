@@ -8,7 +8,7 @@ use lib.Dec.{eqb, ltb}
 use lib.ListN.{length, getD}
 use borrow.Author.Tests.{lt-ltb, le-ltb, le-leb, ltb-true}
 use Rattle.terms.specs.Bits.{same}
-use Rattle.terms.specs.Refusal.{numberOf}
+use Rattle.terms.specs.Refusal.{numberOf, valuesOf}
 use Rattle.terms.specs.Told.{Told, refused, accepted}
 use Rattle.terms.specs.declared.address.Page.{Page}
 use Rattle.terms.specs.declared.verdict.Verdict.{Verdict}
@@ -28,6 +28,7 @@ use Rattle.chain.proofs.Walks.{final-means, outside-means}
 use Rattle.chain.proofs.Frees.{found-means}
 use Rattle.update_laws.proofs.Relink.{final-below}
 use Rattle.master.specs.Next.{Next}
+use Rattle.master.proofs.Ranges.{beyond}
 use Rattle.plan.specs.declared.Wanted.{Wanted}
 use Rattle.plan.specs.declared.Wanted.the-variants.{Anything, Presence, Bit, LastCrcBit, LastBackBit}
 use Rattle.publisher.specs.declared.Choice.{Choice}
@@ -42,6 +43,7 @@ use Rattle.publisher.specs.Start.{foundChoice, choiceFree, choiceFinal, choiceW
 use Rattle.publisher.specs.Call.{planIn, totalIn, judgedLast, judgedPresence, judgedOf, stepOf, wantedOf, atStage, goneOn, judgedTurn, turnOf, readsCrc, isStop, stageInRange, inRange, turnTold, callAnswer, callState}
 use Rattle.plan.specs.Plan.{resetStep, planOf, totalOf}
 use Rattle.plan.proofs.Checks.{judgesCrc, no-crc}
+use Rattle.call_laws.specs.Ranges.{isOrdinary, stops}
 
 -- what holds of both cases of a test
 either : {A : Type 0} (P : A → Type 0) (t : Bool) (x y : A) → (t ≡ true → P x) → (t ≡ false → P y) → P (cond t x y)
@@ -127,40 +129,42 @@ pub may-stop : (n : ℕ) (s : Publisher) (k : ℕ) (good reply : Bool) → MaySt
 may-stop n s k good reply =
     wanted-stop (s .mode) n (wantedOf (planIn s) k) good reply (reads-crc (s .mode) (s .last .0) (s .target .0) (s .used) (s .new) k)
 
--- a refusal that stops is not 2, and 6 only where CRCs are read
-abbrev Fine : WriteMode → ℕ → Bool
-Fine mode number = cond (eqb number 2) false (cond (eqb number 6) (readsCrc mode) true)
+-- the refusals that stop are those listed
+crc-listed : (mode : WriteMode) → readsCrc mode ≡ (isOrdinary mode && true)
+unfolding readsCrc
+crc-listed Ordinary = refl
+crc-listed Quick = refl
 
-stop-fine : (mode : WriteMode) (n : ℕ) (r : Refusal) → isStop mode n r ≡ true → Fine mode (numberOf r) ≡ true
-unfolding isStop
-stop-fine mode n ImageLength h = refl
-stop-fine mode n StateRange h = h
-stop-fine mode n PageNumber h = refl
-stop-fine mode n LoopRefusal h = refl
-stop-fine mode n (OutsideRefusal x) h = refl
-stop-fine mode n Crc16 h = h
-stop-fine mode n ReadBack h = refl
-stop-fine mode n NoFreePage h = refl
-stop-fine mode n (RedirectionProtected l) h = refl
-stop-fine mode n BufferLength h = refl
-stop-fine mode n Sheet h = refl
-stop-fine mode n NoPresence h = refl
-stop-fine mode n Crc8 h = refl
-stop-fine mode n Family h = refl
-stop-fine mode n Header h = refl
-stop-fine mode n Latitude h = refl
-stop-fine mode n Column h = refl
-stop-fine mode n NoValue h = refl
-stop-fine mode n (DataProtected l) h = refl
+pub stop-listed : (mode : WriteMode) (n : ℕ) (r : Refusal) → isStop mode n r ≡ stops mode n (numberOf r) (valuesOf r)
+unfolding isStop isPage
+stop-listed mode n ImageLength = refl
+stop-listed mode n StateRange = refl
+stop-listed mode n PageNumber = refl
+stop-listed mode n LoopRefusal = refl
+stop-listed mode n (OutsideRefusal x) = beyond n x
+stop-listed mode n Crc16 = crc-listed mode
+stop-listed mode n ReadBack = refl
+stop-listed mode n NoFreePage = refl
+stop-listed mode n (RedirectionProtected l) = refl
+stop-listed mode n BufferLength = refl
+stop-listed mode n Sheet = refl
+stop-listed mode n NoPresence = refl
+stop-listed mode n Crc8 = refl
+stop-listed mode n Family = refl
+stop-listed mode n Header = refl
+stop-listed mode n Latitude = refl
+stop-listed mode n Column = refl
+stop-listed mode n NoValue = refl
+stop-listed mode n (DataProtected l) = refl
 
-abbrev FineTold : WriteMode → Told Next → Type 0
-FineTold mode (refused number values) = Fine mode number ≡ true
-FineTold mode (accepted a) = Unit {0}
+abbrev FineTold : WriteMode → ℕ → Told Next → Type 0
+FineTold mode n (refused number values) = stops mode n number values ≡ true
+FineTold mode n (accepted a) = Unit {0}
 
 -- ---- a turn keeps to the ranges, and tells no other number
 
 abbrev FitStepped : ℕ → WriteMode → Stepped → Type 0
-FitStepped n mode t = (inRange n (t .state) ≡ true) × FineTold mode (turnTold (t .answer))
+FitStepped n mode t = (inRange n (t .state) ≡ true) × FineTold mode n (turnTold (t .answer))
 
 module _ (n : ℕ) (s : Publisher) (h : inRange n s ≡ true) where
   held : (stageInRange (s .mode) n (s .stage) ≡ true) × ((g : Stage) → stageInRange (s .mode) n g ≡ true → inRange n (atStage s g) ≡ true)
@@ -179,13 +183,13 @@ module _ (n : ℕ) (s : Publisher) (h : inRange n s ≡ true) where
   judged-fit : (k : ℕ) (j : Judged) → MayStop (s .mode) n j → FitStepped n (s .mode) (judgedTurn (totalIn s) (planIn s) s k j)
   unfolding judgedTurn stageInRange
   judged-fit k (On good) f = gone-fit k good
-  judged-fit k (Stop r) f = (held .1 (Stopped r) f, stop-fine (s .mode) n r f)
+  judged-fit k (Stop r) f = (held .1 (Stopped r) f, sym (stop-listed (s .mode) n r) ∙ f)
 
   turn-fit : (g : Stage) (reply : Bool) → stageInRange (s .mode) n g ≡ true → FitStepped n (s .mode) (turnOf (totalIn s) (planIn s) s g reply)
   unfolding turnOf stageInRange
   turn-fit (Running k good) reply f = judged-fit k _ (may-stop n s k good reply)
   turn-fit Done reply f = (h, tt)
-  turn-fit (Stopped r) reply f = (h, stop-fine (s .mode) n r f)
+  turn-fit (Stopped r) reply f = (h, sym (stop-listed (s .mode) n r) ∙ f)
 
 -- within the ranges a call takes its turn
 abbrev pub turn : Publisher → Bool → Stepped
@@ -210,8 +214,8 @@ unfolding callAnswer callState
 call-outside n s reply h = (simp h, simp h)
 
 told-fine : (n : ℕ) (s : Publisher) (reply : Bool) (number : ℕ) (values : List ℕ) → inRange n s ≡ true → callAnswer n s reply ≡ refused number values
-    → Fine (s .mode) number ≡ true
-told-fine n s reply number values h e = subst (FineTold (s .mode)) (sym (told-is n s reply h) ∙ e) (call-fit n s reply h .1)
+    → stops (s .mode) n number values ≡ true
+told-fine n s reply number values h e = subst (FineTold (s .mode) n) (sym (told-is n s reply h) ∙ e) (call-fit n s reply h .1)
 
 pub call-never : (n : ℕ) (s : Publisher) (reply : Bool) (values : List ℕ) → inRange n s ≡ true → callAnswer n s reply ≡ refused 2 values → ⊥
 call-never n s reply values h e =
@@ -219,12 +223,11 @@ call-never n s reply values h e =
     omega arith
 
 pub call-no-crc : (n : ℕ) (s : Publisher) (reply : Bool) (values : List ℕ) → s .mode ≡ Quick → callAnswer n s reply ≡ refused 6 values → ⊥
-unfolding readsCrc
 call-no-crc n s reply values quick e = go (inRange n s) refl
   where
     go : (t : Bool) → inRange n s ≡ t → ⊥
     go true h =
-        let z : _≡_ {A = ℕ} 0 1 = ap (λ (b : Bool). cond b 1 0) (sym (ap readsCrc quick) ∙ told-fine n s reply 6 values h e) in
+        let z : _≡_ {A = ℕ} 0 1 = ap (λ (b : Bool). cond b 1 0) (sym (ap (λ (m : WriteMode). stops m n 6 values) quick) ∙ told-fine n s reply 6 values h e) in
         omega arith
     go false h =
         let other : _≡_ {A = Told Next} (refused 2 []) (refused 6 values) = sym (call-outside n s reply h .0) ∙ e in

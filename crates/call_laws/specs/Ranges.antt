@@ -18,15 +18,19 @@ abbrev pub mostReturned : WriteMode → ℕ
 mostReturned Ordinary = 1222
 mostReturned Quick = 678
 
+-- 6 stops an update in the ordinary mode alone
+abbrev pub isOrdinary : WriteMode → Bool
+isOrdinary Ordinary = true
+isOrdinary Quick = false
+
 -- the numbers of the refusals that stop an update
-abbrev pub stopNumbers : WriteMode → List ℕ
-stopNumbers Ordinary = 1 ∷ 3 ∷ 4 ∷ 5 ∷ 6 ∷ 7 ∷ 8 ∷ 9 ∷ 10 ∷ 13 ∷ 20 ∷ []
-stopNumbers Quick = 1 ∷ 3 ∷ 4 ∷ 5 ∷ 7 ∷ 8 ∷ 9 ∷ 10 ∷ 13 ∷ 20 ∷ []
+abbrev pub stopsNumber : WriteMode → ℕ → Bool
+stopsNumber mode number = cond (eqb number 6) (isOrdinary mode) (among number (1 ∷ 3 ∷ 4 ∷ 5 ∷ 7 ∷ 8 ∷ 9 ∷ 10 ∷ 13 ∷ 20 ∷ []))
 
 -- a refusal, by its number and values: 5 with a number that is no page, 9 and 20 with a page
 abbrev pub stops : WriteMode → ℕ → ℕ → List ℕ → Bool
 stops mode n number values =
-    among number (stopNumbers mode) && cond (eqb number 5) (leb n (getD values 0 0)) (cond (among number (9 ∷ 20 ∷ [])) (ltb (getD values 0 0) n) true)
+    stopsNumber mode number && cond (eqb number 5) (leb n (getD values 0 0)) (cond (among number (9 ∷ 20 ∷ [])) (ltb (getD values 0 0) n) true)
 
 abbrev pub StageListed : WriteMode → ℕ → Stage → Type 0
 StageListed mode n (Running k good) = k ≤ mostReturned mode
