@@ -70,7 +70,7 @@ pub record Demand3 (n : ℕ) (mode : WriteMode) (c : Chip) (new : List ℕ) (p :
   pub refusal : (k : ℕ) (values : List ℕ) → startAnswer n (c .image) new p ≡ refused k values
       → answersTo n (startState n mode (c .image) new p) replies ≡ replicate (length replies) (refused k values)
 
--- Demand 3 of every chip with n pages that is within its ranges, every 32 or other bytes, page and list of replies, in both modes. It is
+-- Demand 3 of every chip with n pages that is within its ranges, whatever the new bytes, the page and the replies, in both modes. It is
 -- proved of every multiple of 8 up to 256, and cited at 64.
 abbrev pub Demand3Of : ℕ → Type 0
 Demand3Of n = (mode : WriteMode) (c : Chip) (new : List ℕ) (p : ℕ) (replies : List Bool) → Ready n c → Bytes new → Demand3 n mode c new p replies
