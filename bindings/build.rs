@@ -1,4 +1,4 @@
-//! Links the proved library, which `rt staticlib capi` writes.
+//! Links the proved library, which `rt staticlib plug_capi` writes.
 
 use std::path::PathBuf;
 use std::process::{exit, Command};
@@ -6,18 +6,18 @@ use std::process::{exit, Command};
 fn main() {
     let here = PathBuf::from(std::env::var_os("CARGO_MANIFEST_DIR").expect("cargo sets this"));
     let folder = here.join("../target/staticlib");
-    let library = folder.join("libcapi.a");
+    let library = folder.join("libplug_capi.a");
     println!("cargo:rerun-if-changed={}", library.display());
     if !library.is_file() {
         eprintln!();
-        eprintln!("The proved library target/staticlib/libcapi.a is missing.");
-        eprintln!("Build it with `rt staticlib capi` at the top of the repository.");
+        eprintln!("The proved library target/staticlib/libplug_capi.a is missing.");
+        eprintln!("Build it with `rt staticlib plug_capi` at the top of the repository.");
         eprintln!();
         exit(1);
     }
     println!("cargo:rustc-link-search=native={}", folder.display());
-    println!("cargo:rustc-link-lib=static=capi");
-    println!("cargo:rustc-env=DS2505_RUSTC={}", compiler());
+    println!("cargo:rustc-link-lib=static=plug_capi");
+    println!("cargo:rustc-env=PLUG_RUSTC={}", compiler());
 }
 
 /// The compiler's version, which the benchmark prints.

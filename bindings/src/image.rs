@@ -18,7 +18,7 @@ pub enum Verdict {
 /// The walk from a page. Refusals 1 and 3.
 pub fn walk(image: &[u8], page: u8) -> Result<Verdict, Refusal> {
     let mut answer = [0; ANSWER_SIZE];
-    match calls::walk(image, page, &mut answer) {
+    match calls::walk(image, page.into(), &mut answer) {
         0 => Ok(Verdict::Final(Final {
             page: answer[1],
             hops: answer[2],
@@ -32,14 +32,14 @@ pub fn walk(image: &[u8], page: u8) -> Result<Verdict, Refusal> {
 /// A page's own 32 bytes. Refusals 1 and 3.
 pub fn page(image: &[u8], page: u8) -> Result<[u8; PAGE_SIZE], Refusal> {
     let mut buffer = [0; PAGE_SIZE];
-    judged(calls::page(image, page, &mut buffer))?;
+    judged(calls::page(image, page.into(), &mut buffer))?;
     Ok(buffer)
 }
 
 /// The lowest free page other than the one given. Refusals 1, 3 and 8.
 pub fn free_page(image: &[u8], other: u8) -> Result<u8, Refusal> {
     let mut answer = [0; ANSWER_SIZE];
-    match calls::free_page(image, other, &mut answer) {
+    match calls::free_page(image, other.into(), &mut answer) {
         0 => Ok(answer[1]),
         code => Err(refusal(code, &answer)),
     }
@@ -62,7 +62,7 @@ pub fn update(
         WriteMode::Quick => calls::update_quick,
     };
     let mut answer = [0; ANSWER_SIZE];
-    match update(image, number, new_page, page, events, &mut answer) {
+    match update(image, number, new_page, page.into(), events, &mut answer) {
         0 => Ok(Published {
             l: answer[1],
             t: answer[2],

@@ -1,7 +1,7 @@
-//! The DS2505 for Rust, over the proved library's C interface.
+//! The plug and its DS2505 for Rust, over the proved library's C interface.
 //!
 //! `calls` has the library's functions on slices, with codes and buffers as
-//! `include/ds2505.h` describes them. Over them stand types: events, verdicts,
+//! `include/plug.h` describes them. Over them stand types: events, verdicts,
 //! refusals, the chip, the two reading masters and the publisher. Where the C
 //! interface has a function for each mode of writing, the mode is an argument.
 //! Latitudes, values of the variation and changes are tenths of a degree.
@@ -187,18 +187,37 @@ fn told<T>(
     })
 }
 
+/// A master fed these replies by a function of the library, which is given
+/// their bytes and the buffers for the events and the answer.
+fn fed<T>(
+    replies: &[bool],
+    function: impl FnOnce(&[u8], &mut [u8], &mut [u8]) -> u32,
+    end: impl Fn(&AnswerBuffer) -> T,
+) -> Run<T> {
+    let bytes: Vec<u8> = replies.iter().map(|&reply| u8::from(reply)).collect();
+    let mut events = vec![0; replies.len()];
+    let mut answer = [0; ANSWER_SIZE];
+    let code = function(&bytes, &mut events, &mut answer);
+    Run {
+        events: events.iter().map(|&byte| Event::of_code(byte)).collect(),
+        last: told(code, &answer, end),
+    }
+}
+
+impl<T> Run<T> {
+    /// The run, or the refusal of its start: a code that no call tells.
+    fn started(self, by_calls: &[u32]) -> Result<Run<T>, Refusal> {
+        match self.last {
+            Err(refusal) if !by_calls.contains(&refusal.number) => Err(refusal),
+            _ => Ok(self),
+        }
+    }
+}
+
 fn codes(events: &[Event]) -> Vec<u8> {
     events.iter().map(|event| event.code()).collect()
 }
 
-fn reply_bytes(replies: &[bool]) -> Vec<u8> {
-    replies.iter().map(|&reply| u8::from(reply)).collect()
-}
-
 fn replies_of(bytes: &[u8]) -> Vec<bool> {
     bytes.iter().map(|&byte| byte == 1).collect()
-}
-
-fn events_of(bytes: &[u8]) -> Vec<Option<Event>> {
-    bytes.iter().map(|&byte| Event::of_code(byte)).collect()
 }

@@ -1,8 +1,8 @@
 //! The master that reads the registration number.
 
 use crate::{
-    calls, events_of, judged, reply_bytes, told, Answer, AnswerBuffer, Refusal, Run, ANSWER_SIZE,
-    NUMBER_SIZE, NUMBER_STATE_SIZE,
+    calls, fed, judged, told, Answer, AnswerBuffer, Refusal, Run, ANSWER_SIZE, NUMBER_SIZE,
+    NUMBER_STATE_SIZE,
 };
 
 type Number = [u8; NUMBER_SIZE];
@@ -13,13 +13,7 @@ fn number(answer: &AnswerBuffer) -> Number {
 
 /// A read fed these replies.
 pub fn number_run(replies: &[bool]) -> Run<Number> {
-    let mut events = vec![0; replies.len()];
-    let mut answer = [0; ANSWER_SIZE];
-    let code = calls::number_run(&reply_bytes(replies), &mut events, &mut answer);
-    Run {
-        events: events_of(&events),
-        last: told(code, &answer, number),
-    }
+    fed(replies, calls::number_run, number)
 }
 
 /// A number read under way.
@@ -47,7 +41,7 @@ impl NumberRead {
     /// Refusals 13, 14 and 15 (2 with bytes that are no state).
     pub fn call(&mut self, reply: bool) -> Result<Answer<Number>, Refusal> {
         let mut answer = [0; ANSWER_SIZE];
-        let code = calls::number_call(&mut self.state, u8::from(reply), &mut answer);
+        let code = calls::number_call(&mut self.state, u32::from(reply), &mut answer);
         told(code, &answer, number)
     }
 }

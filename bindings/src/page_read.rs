@@ -1,8 +1,8 @@
 //! The master that reads a page, following redirection.
 
 use crate::{
-    calls, events_of, judged, refusal, reply_bytes, told, Answer, AnswerBuffer, Refusal, Run,
-    ANSWER_SIZE, PAGE_SIZE, PAGE_STATE_SIZE,
+    calls, fed, judged, told, Answer, AnswerBuffer, Refusal, Run, ANSWER_SIZE, PAGE_SIZE,
+    PAGE_STATE_SIZE,
 };
 
 /// The page that a chain ends at, and the count of redirection bytes other
@@ -27,23 +27,10 @@ pub fn page_run(
     replies: &[bool],
     buffer: &mut [u8; PAGE_SIZE],
 ) -> Result<Run<Final>, Refusal> {
-    let mut events = vec![0; replies.len()];
-    let mut answer = [0; ANSWER_SIZE];
-    let code = calls::page_run(
-        page,
-        &reply_bytes(replies),
-        &mut events,
-        buffer,
-        &mut answer,
-    );
-    // No call tells 3.
-    if code == 3 {
-        return Err(refusal(code, &answer));
-    }
-    Ok(Run {
-        events: events_of(&events),
-        last: told(code, &answer, reached),
-    })
+    let run = |replies: &[u8], events: &mut [u8], answer: &mut [u8]| {
+        calls::page_run(page.into(), replies, events, buffer, answer)
+    };
+    fed(replies, run, reached).started(&[13, 6, 4, 5])
 }
 
 /// A page read under way.
@@ -56,7 +43,7 @@ impl PageRead {
     /// Refusal 3.
     pub fn start(page: u8) -> Result<PageRead, Refusal> {
         let mut state = [0; PAGE_STATE_SIZE];
-        judged(calls::page_start(page, &mut state))?;
+        judged(calls::page_start(page.into(), &mut state))?;
         Ok(PageRead { state })
     }
 
@@ -72,7 +59,7 @@ impl PageRead {
     /// Refusals 10, 13, 6, 4 and 5 (2 with bytes that are no state).
     pub fn call(&mut self, reply: bool, buffer: &mut [u8]) -> Result<Answer<Final>, Refusal> {
         let mut answer = [0; ANSWER_SIZE];
-        let code = calls::page_call(&mut self.state, u8::from(reply), buffer, &mut answer);
+        let code = calls::page_call(&mut self.state, u32::from(reply), buffer, &mut answer);
         told(code, &answer, reached)
     }
 }

@@ -1,8 +1,8 @@
 //! The master that supersedes a page.
 
 use crate::{
-    calls, events_of, refusal, reply_bytes, told, Answer, AnswerBuffer, Refusal, Run, WriteMode,
-    ANSWER_SIZE, PUBLISHER_STATE_SIZE,
+    calls, fed, refusal, told, Answer, AnswerBuffer, Refusal, Run, WriteMode, ANSWER_SIZE,
+    PUBLISHER_STATE_SIZE,
 };
 
 /// The two pages of an update.
@@ -34,24 +34,11 @@ pub fn publisher_run(
         WriteMode::Ordinary => calls::publisher_run,
         WriteMode::Quick => calls::publisher_run_quick,
     };
-    let mut events = vec![0; replies.len()];
-    let mut answer = [0; ANSWER_SIZE];
-    let code = run(
-        image,
-        new_page,
-        page,
-        &reply_bytes(replies),
-        &mut events,
-        &mut answer,
-    );
-    // The calls tell no other codes, and 6 in the ordinary mode only.
-    if !matches!(code, 0 | 6 | 7 | 13) {
-        return Err(refusal(code, &answer));
-    }
-    Ok(Run {
-        events: events_of(&events),
-        last: told(code, &answer, published),
-    })
+    let run = |replies: &[u8], events: &mut [u8], answer: &mut [u8]| {
+        run(image, new_page, page.into(), replies, events, answer)
+    };
+    // 6 in the ordinary mode only.
+    fed(replies, run, published).started(&[13, 6, 7])
 }
 
 /// An update under way.
@@ -74,7 +61,7 @@ impl Publisher {
         };
         let mut state = [0; PUBLISHER_STATE_SIZE];
         let mut answer = [0; ANSWER_SIZE];
-        match start(image, new_page, page, &mut state, &mut answer) {
+        match start(image, new_page, page.into(), &mut state, &mut answer) {
             0 => Ok(Publisher { state }),
             code => Err(refusal(code, &answer)),
         }
@@ -93,7 +80,7 @@ impl Publisher {
     /// 7 (2 with bytes that are no state).
     pub fn call(&mut self, reply: bool) -> Result<Answer<Published>, Refusal> {
         let mut answer = [0; ANSWER_SIZE];
-        let code = calls::publisher_call(&mut self.state, u8::from(reply), &mut answer);
+        let code = calls::publisher_call(&mut self.state, u32::from(reply), &mut answer);
         told(code, &answer, published)
     }
 }

@@ -35,7 +35,7 @@ fn compile(compiler: &str, words: &[&str], source: &Path, program: &Path) {
         .arg(source)
         .arg("-I")
         .arg(top().join("include"))
-        .arg(top().join("target/staticlib/libcapi.a")));
+        .arg(top().join("target/staticlib/libplug_capi.a")));
 }
 
 /// The first block of a kind in a document.
@@ -52,7 +52,7 @@ fn the_header_compiles_alone() {
         run(Command::new(compiler)
             .args([standard, "-Wall", "-Wextra", "-pedantic"])
             .args(["-fsyntax-only", "-x", language])
-            .arg(top().join("include/ds2505.h")));
+            .arg(top().join("include/plug.h")));
     }
 }
 
@@ -92,7 +92,7 @@ fn every_function_from_c_and_from_cpp() {
 /// followed by the given mark.
 fn functions(text: &str, mark: &str) -> Vec<String> {
     let mut names: Vec<String> = text
-        .split("ds2505_")
+        .split("plug_")
         .skip(1)
         .filter_map(|rest| {
             let end = rest.find(|c: char| !c.is_ascii_alphanumeric() && c != '_')?;
@@ -108,17 +108,17 @@ fn functions(text: &str, mark: &str) -> Vec<String> {
 
 #[test]
 fn header_document_and_bindings_name_the_same_functions() {
-    let header = functions(&read("include/ds2505.h"), "(");
+    let header = functions(&read("include/plug.h"), "(");
     assert_eq!(header.len(), 27);
     let document = read("docs/C-INTERFACE.md");
     let table: String = document
         .lines()
-        .filter(|line| line.starts_with("| `ds2505_"))
+        .filter(|line| line.starts_with("| `plug_"))
         .collect::<Vec<_>>()
         .join("\n");
     assert_eq!(functions(&table, "`"), header);
     let bindings = read("bindings/src/calls.rs");
-    let declared: Vec<String> = functions(&bindings, "(");
+    let declared: Vec<String> = functions(&bindings, " as ");
     assert_eq!(declared, header);
     assert_eq!(
         functions(&read("bindings/tests/every_function.c"), "("),
@@ -128,20 +128,20 @@ fn header_document_and_bindings_name_the_same_functions() {
 
 #[test]
 fn header_and_bindings_have_the_same_sizes() {
-    let header = read("include/ds2505.h");
+    let header = read("include/plug.h");
     for (name, size) in [
-        ("IMAGE_SIZE", ds2505::IMAGE_SIZE),
-        ("SHEET_SIZE", ds2505::SHEET_SIZE),
-        ("NUMBER_SIZE", ds2505::NUMBER_SIZE),
-        ("PAGE_SIZE", ds2505::PAGE_SIZE),
-        ("CHIP_STATE_SIZE", ds2505::CHIP_STATE_SIZE),
-        ("NUMBER_STATE_SIZE", ds2505::NUMBER_STATE_SIZE),
-        ("PAGE_STATE_SIZE", ds2505::PAGE_STATE_SIZE),
-        ("PUBLISHER_STATE_SIZE", ds2505::PUBLISHER_STATE_SIZE),
-        ("ANSWER_SIZE", ds2505::ANSWER_SIZE),
-        ("LIST_TEXT_SIZE", ds2505::LIST_TEXT_SIZE),
+        ("IMAGE_SIZE", plug::IMAGE_SIZE),
+        ("SHEET_SIZE", plug::SHEET_SIZE),
+        ("NUMBER_SIZE", plug::NUMBER_SIZE),
+        ("PAGE_SIZE", plug::PAGE_SIZE),
+        ("CHIP_STATE_SIZE", plug::CHIP_STATE_SIZE),
+        ("NUMBER_STATE_SIZE", plug::NUMBER_STATE_SIZE),
+        ("PAGE_STATE_SIZE", plug::PAGE_STATE_SIZE),
+        ("PUBLISHER_STATE_SIZE", plug::PUBLISHER_STATE_SIZE),
+        ("ANSWER_SIZE", plug::ANSWER_SIZE),
+        ("LIST_TEXT_SIZE", plug::LIST_TEXT_SIZE),
     ] {
-        let line = format!("#define DS2505_{name} {size}\n");
+        let line = format!("#define PLUG_{name} {size}\n");
         assert!(header.contains(&line), "{line}");
     }
 }

@@ -5,12 +5,10 @@
 mod common;
 
 use common::{reached, refusal, start_model, status, verdict, MODES};
-use ds2505::{
-    free_page, page_run, walk, Answer, Chip, Final, PageRead, Publisher, Refusal, Verdict,
-};
 use ds2505_model as model;
 use ds2505_model::chip::Chip as ModelChip;
 use ds2505_model::random::{chain_image, Generator};
+use plug::{free_page, page_run, walk, Answer, Chip, Final, PageRead, Publisher, Refusal, Verdict};
 
 /// All pages, 0 first, since no byte names it: rising, falling, or drawn.
 fn orders(g: &mut Generator) -> Vec<Vec<u8>> {

@@ -6,11 +6,11 @@ mod common;
 mod plain;
 
 use common::{crc_slots, session, some_number, to_model, write_commands, MODES};
-use ds2505::{chip_run, Chip, Event, Refusal, WriteMode};
 use ds2505_model::bits::bits_of;
 use ds2505_model::chip::Chip as ModelChip;
 use ds2505_model::memory::blank_image;
 use ds2505_model::random::{any_image, used_image, Generator};
+use plug::{chip_run, Chip, Event, Refusal, WriteMode};
 
 /// Image number `round` of a test: one of the two kinds.
 fn image(g: &mut Generator, round: usize) -> Vec<u8> {
@@ -251,7 +251,7 @@ fn tray() {
     let mut image = blank_image();
     image[0x7FF] = 0x3C;
     let replies = read(&mut image, &[0xCC, 0xF0, 0xFF, 0x07], 32);
-    let crc = !ds2505::crc16(0, &[0xF0, 0xFF, 0x07, 0x3C]);
+    let crc = !plug::crc16(0, &[0xF0, 0xFF, 0x07, 0x3C]);
     assert_eq!(byte_of(&replies), 0x3C);
     assert_eq!(
         [byte_of(&replies[8..]), byte_of(&replies[16..])],

@@ -7,11 +7,11 @@ use common::{
     all_events, image_to_update, mode_of_model, naming_pulse, published, start_model, to_model,
     verdict,
 };
-use ds2505::{page, update, walk, Answer, Verdict, WriteMode};
 use ds2505_model as model;
 use ds2505_model::chip::Chip as ModelChip;
 use ds2505_model::memory::blank_image;
 use ds2505_model::random::{chain_image, Generator};
+use plug::{page, update, walk, Answer, Verdict, WriteMode};
 
 /// In each mode.
 const UPDATES: usize = 100;
@@ -50,14 +50,14 @@ fn readings(image: &[u8]) -> Vec<(Verdict, Option<[u8; 32]>)> {
 fn assert_moved(
     before: &[(Verdict, Option<[u8; 32]>)],
     after: &[(Verdict, Option<[u8; 32]>)],
-    pages: ds2505::Published,
+    pages: plug::Published,
     new: [u8; 32],
 ) {
     for (number, (old, now)) in before.iter().zip(after).enumerate() {
         match old.0 {
             _ if number == usize::from(pages.t) => {}
             Verdict::Final(end) if end.page == pages.l => {
-                let moved = ds2505::Final {
+                let moved = plug::Final {
                     page: pages.t,
                     hops: end.hops + 1,
                 };

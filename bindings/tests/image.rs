@@ -6,10 +6,10 @@ use common::{
     all_events, clear_bit, image_to_update, mode_of_model, naming_pulse, published, refusal,
     some_image, start_model, status, verdict, MODES,
 };
-use ds2505::{free_page, page, update, walk, Final, Published, Refusal, Verdict, WriteMode};
 use ds2505_model as model;
 use ds2505_model::memory::blank_image;
 use ds2505_model::random::{chain_image, Generator};
+use plug::{free_page, page, update, walk, Final, Published, Refusal, Verdict, WriteMode};
 
 /// Every page number there is, pages above 63 too.
 #[test]

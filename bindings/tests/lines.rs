@@ -6,12 +6,12 @@
 mod common;
 
 use common::{image_to_update, published, reached, same, start_model, told, MODES};
-use ds2505::{
+use ds2505_model as model;
+use ds2505_model::random::Generator;
+use plug::{
     number_run, page_run, publisher_run, Answer, Event, NumberRead, PageRead, Publisher, Refusal,
     Run,
 };
-use ds2505_model as model;
-use ds2505_model::random::Generator;
 
 /// Replies to one kind of event: always 0, always 1, or 1 once in so many times.
 #[derive(Clone, Copy, Debug)]

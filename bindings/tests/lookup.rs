@@ -10,11 +10,11 @@ use common::{
     all_events, blank_gaps, clear_bit, header_of, lead, naming_pulse, plug, put_page, refusal,
     some_image, some_number, status, value_on, MODES,
 };
-use ds2505::{calls, change, sheet_variation, sheet_write, update, variation, Published, Refusal};
 use ds2505_model as model;
 use ds2505_model::lookup_cases;
 use ds2505_model::memory::blank_image;
 use ds2505_model::random::Generator;
+use plug::{calls, change, sheet_variation, sheet_write, update, variation, Published, Refusal};
 
 type Told = Result<i16, Refusal>;
 
@@ -107,7 +107,7 @@ impl Seen {
 // ---- the stored cases
 
 fn stored(name: &str) -> Vec<u8> {
-    let folder = Path::new(env!("CARGO_MANIFEST_DIR")).join("../crates/variation_cases");
+    let folder = Path::new(env!("CARGO_MANIFEST_DIR")).join("../crates/program_variation_cases");
     std::fs::read(folder.join(name)).unwrap()
 }
 

@@ -8,14 +8,14 @@ use common::{
     refusal, same, session, some_damage, some_image, some_number, sound_number, start_model,
     to_model, told, Damage, MODES,
 };
-use ds2505::{
-    number_run, page_run, publisher_run, Answer, Chip, Event, Final, NumberRead, PageRead,
-    Published, Publisher, Refusal, Verdict, WriteMode,
-};
 use ds2505_model as model;
 use ds2505_model::chip::Chip as ModelChip;
 use ds2505_model::crc::crc16_sent;
 use ds2505_model::random::Generator;
+use plug::{
+    number_run, page_run, publisher_run, Answer, Chip, Event, Final, NumberRead, PageRead,
+    Published, Publisher, Refusal, Verdict, WriteMode,
+};
 
 /// Room for a count of each code.
 const CODES: usize = 21;
@@ -158,7 +158,7 @@ fn assert_same_page_read(
     g: &mut Generator,
     page: u8,
     replies: &[bool],
-    answers: &[Result<Answer<ds2505::Final>, Refusal>],
+    answers: &[Result<Answer<plug::Final>, Refusal>],
     buffers: &[[u8; 32]],
     before: [u8; 32],
 ) {
@@ -304,7 +304,7 @@ fn every_single_wrong_reply_to_a_reader() {
     let mut g = Generator::new(309);
     let mut number = sound_number(&mut g);
     number[0] = 0x0B;
-    number[7] = ds2505::crc8(0, &number[..7]);
+    number[7] = plug::crc8(0, &number[..7]);
     let image = model::random::chain_image(&[3, 60, 17]);
     for wrong in 0..74 {
         let mut chip = ModelChip::power_up(number, image.clone()).unwrap();
@@ -441,7 +441,7 @@ fn starts() {
             // image.
             let mut left = image.clone();
             assert_eq!(
-                ds2505::update(&mut left, &[0; 8], &new, page, mode, 0),
+                plug::update(&mut left, &[0; 8], &new, page, mode, 0),
                 expected
             );
             assert_eq!(left, image);
@@ -491,11 +491,11 @@ fn a_protected_band_is_closed() {
             assert_eq!(run.map(|_| ()), begun);
             let mut left = image.clone();
             let whole = all_events(mode) as u32;
-            let updated = ds2505::update(&mut left, &[0; 8], &new, 5, mode, whole);
+            let updated = plug::update(&mut left, &[0; 8], &new, 5, mode, whole);
             assert_eq!(updated, expected, "{mode:?}, {protected:?} protected");
             match updated {
                 Ok(pages) => assert_eq!(
-                    ds2505::walk(&left, 5),
+                    plug::walk(&left, 5),
                     Ok(Verdict::Final(Final {
                         page: pages.t,
                         hops: 2

@@ -10,17 +10,17 @@ mod common;
 use std::cmp::Ordering;
 
 use common::{clear_bit, header_of, lead, plug, put_page, status, value_on};
-use ds2505::{calls, Event};
 use ds2505_model::chip::Chip as ModelChip;
 use ds2505_model::memory::blank_image;
 use ds2505_model::random::Generator;
+use plug::{calls, Event};
 
 /// A call: its buffers in the order of the header, and what else it is given.
 #[derive(Clone, Debug, PartialEq, Eq)]
 struct Call {
     buffers: Vec<Vec<u8>>,
-    /// A page or a reply.
-    small: u8,
+    /// A page or a reply, of which every number is judged.
+    small: u32,
     /// A latitude, or the old value of a change.
     tenths: i32,
     column: u32,
@@ -28,7 +28,7 @@ struct Call {
 }
 
 impl Call {
-    fn new(buffers: Vec<Vec<u8>>, small: u8) -> Call {
+    fn new(buffers: Vec<Vec<u8>>, small: u32) -> Call {
         Call {
             buffers,
             small,
@@ -71,7 +71,20 @@ fn rank(code: u32) -> u32 {
     }
 }
 
-/// Every set of faults, each by the first of them.
+/// Numbers that no byte holds. Cut down to a byte they would be right: a page
+/// of the chip, the page of the call, a reply; or the last page number of all.
+const PAST_A_BYTE: [u32; 7] = [
+    256,
+    257,
+    256 + PAGE as u32,
+    0x1_0000,
+    0x1_0001,
+    0x8000_0000 + PAGE as u32,
+    u32::MAX,
+];
+
+/// Every set of faults, each by the first of them. Where a page or a reply is
+/// one of the faults, it is tried with the numbers past a byte too.
 fn assert_order(name: &str, function: impl Fn(&mut Call) -> u32, good: &Call, faults: &[Fault]) {
     let ranks: Vec<u32> = faults.iter().map(|fault| rank(fault.code)).collect();
     assert!(ranks.is_sorted(), "{name}: another order than 1, 2, 10");
@@ -94,13 +107,26 @@ fn assert_order(name: &str, function: impl Fn(&mut Call) -> u32, good: &Call, fa
         for fault in &chosen {
             (fault.spoil)(&mut call);
         }
-        let mut expected = call.clone();
-        if let Some((buffer, value)) = chosen[0].value {
-            expected.buffers[buffer][..2].copy_from_slice(&[0xFF, value]);
+        let mut numbers = vec![call.small];
+        if call.small != good.small {
+            numbers.extend(PAST_A_BYTE);
         }
-        let code = function(&mut call);
-        assert_eq!(code, chosen[0].code, "{name}, faults {set:b}");
-        assert!(call == expected, "{name}, faults {set:b}: a buffer changed");
+        for small in numbers {
+            let mut call = Call {
+                small,
+                ..call.clone()
+            };
+            let mut expected = call.clone();
+            if let Some((buffer, value)) = chosen[0].value {
+                expected.buffers[buffer][..2].copy_from_slice(&[0xFF, value]);
+            }
+            let code = function(&mut call);
+            assert_eq!(code, chosen[0].code, "{name}, faults {set:b}, {small}");
+            assert!(
+                call == expected,
+                "{name}, faults {set:b}, {small}: a buffer changed"
+            );
+        }
     }
 }
 
@@ -191,16 +217,19 @@ fn number_state(calls: &[u8]) -> Vec<u8> {
     let mut state = vec![0; 24];
     assert_eq!(calls::number_start(&mut state), 0);
     for &reply in calls {
-        assert_eq!(calls::number_call(&mut state, reply, &mut [0; 16]), 0);
+        assert_eq!(
+            calls::number_call(&mut state, reply.into(), &mut [0; 16]),
+            0
+        );
     }
     state
 }
 
 fn page_state(calls: &[u8]) -> Vec<u8> {
     let mut state = vec![0; 48];
-    assert_eq!(calls::page_start(PAGE as u8, &mut state), 0);
+    assert_eq!(calls::page_start(PAGE as u32, &mut state), 0);
     for &reply in calls {
-        let code = calls::page_call(&mut state, reply, &mut [0; 32], &mut [0; 16]);
+        let code = calls::page_call(&mut state, reply.into(), &mut [0; 32], &mut [0; 16]);
         assert_eq!(code, 0);
     }
     state
@@ -208,10 +237,13 @@ fn page_state(calls: &[u8]) -> Vec<u8> {
 
 fn publisher_state(start: PublisherStart, calls: &[u8]) -> Vec<u8> {
     let mut state = vec![0; 48];
-    let code = start(&image(), &[0x3C; 32], PAGE as u8, &mut state, &mut [0; 16]);
+    let code = start(&image(), &[0x3C; 32], PAGE as u32, &mut state, &mut [0; 16]);
     assert_eq!(code, 0);
     for &reply in calls {
-        assert_eq!(calls::publisher_call(&mut state, reply, &mut [0; 16]), 0);
+        assert_eq!(
+            calls::publisher_call(&mut state, reply.into(), &mut [0; 16]),
+            0
+        );
     }
     state
 }
@@ -251,9 +283,9 @@ fn page_replies() -> Vec<u8> {
 
 // ---- the functions of which there is one for each mode
 
-type Update = fn(&mut [u8], &[u8], &[u8], u8, u32, &mut [u8]) -> u32;
-type PublisherRun = fn(&[u8], &[u8], u8, &[u8], &mut [u8], &mut [u8]) -> u32;
-type PublisherStart = fn(&[u8], &[u8], u8, &mut [u8], &mut [u8]) -> u32;
+type Update = fn(&mut [u8], &[u8], &[u8], u32, u32, &mut [u8]) -> u32;
+type PublisherRun = fn(&[u8], &[u8], u32, &[u8], &mut [u8], &mut [u8]) -> u32;
+type PublisherStart = fn(&[u8], &[u8], u32, &mut [u8], &mut [u8]) -> u32;
 
 const UPDATES: [(&str, Update); 2] = [
     ("update", calls::update),
@@ -272,61 +304,50 @@ const PUBLISHER_STARTS: [(&str, PublisherStart); 2] = [
 
 // ---- the functions, on the buffers of a call
 
+/// The buffers of a call, which has as many as are asked for.
+fn many<const MANY: usize>(buffers: &mut [Vec<u8>]) -> &mut [Vec<u8>; MANY] {
+    buffers.try_into().expect("so many buffers")
+}
+
 fn chip_run(call: &mut Call) -> u32 {
-    let [number, events, image, replies] = &mut call.buffers[..] else {
-        panic!()
-    };
+    let [number, events, image, replies] = many(&mut call.buffers);
     calls::chip_run(number, events, image, replies)
 }
 
 fn chip_power_up(call: &mut Call) -> u32 {
-    let [number, state] = &mut call.buffers[..] else {
-        panic!()
-    };
+    let [number, state] = many(&mut call.buffers);
     calls::chip_power_up(number, state)
 }
 
 fn chip_events(call: &mut Call) -> u32 {
-    let [state, events, image, replies] = &mut call.buffers[..] else {
-        panic!()
-    };
+    let [state, events, image, replies] = many(&mut call.buffers);
     calls::chip_events(state, events, image, replies)
 }
 
 fn walk(call: &mut Call) -> u32 {
-    let [image, answer] = &mut call.buffers[..] else {
-        panic!()
-    };
+    let [image, answer] = many(&mut call.buffers);
     calls::walk(image, call.small, answer)
 }
 
 fn page(call: &mut Call) -> u32 {
-    let [image, buffer] = &mut call.buffers[..] else {
-        panic!()
-    };
+    let [image, buffer] = many(&mut call.buffers);
     calls::page(image, call.small, buffer)
 }
 
 fn free_page(call: &mut Call) -> u32 {
-    let [image, answer] = &mut call.buffers[..] else {
-        panic!()
-    };
+    let [image, answer] = many(&mut call.buffers);
     calls::free_page(image, call.small, answer)
 }
 
 fn update(function: Update) -> impl Fn(&mut Call) -> u32 {
     move |call| {
-        let [image, number, new, answer] = &mut call.buffers[..] else {
-            panic!()
-        };
+        let [image, number, new, answer] = many(&mut call.buffers);
         function(image, number, new, call.small, 1300, answer)
     }
 }
 
 fn number_run(call: &mut Call) -> u32 {
-    let [replies, events, answer] = &mut call.buffers[..] else {
-        panic!()
-    };
+    let [replies, events, answer] = many(&mut call.buffers);
     calls::number_run(replies, events, answer)
 }
 
@@ -335,16 +356,12 @@ fn number_start(call: &mut Call) -> u32 {
 }
 
 fn number_call(call: &mut Call) -> u32 {
-    let [state, answer] = &mut call.buffers[..] else {
-        panic!()
-    };
+    let [state, answer] = many(&mut call.buffers);
     calls::number_call(state, call.small, answer)
 }
 
 fn page_run(call: &mut Call) -> u32 {
-    let [replies, events, buffer, answer] = &mut call.buffers[..] else {
-        panic!()
-    };
+    let [replies, events, buffer, answer] = many(&mut call.buffers);
     calls::page_run(call.small, replies, events, buffer, answer)
 }
 
@@ -353,69 +370,51 @@ fn page_start(call: &mut Call) -> u32 {
 }
 
 fn page_call(call: &mut Call) -> u32 {
-    let [state, buffer, answer] = &mut call.buffers[..] else {
-        panic!()
-    };
+    let [state, buffer, answer] = many(&mut call.buffers);
     calls::page_call(state, call.small, buffer, answer)
 }
 
 fn publisher_run(function: PublisherRun) -> impl Fn(&mut Call) -> u32 {
     move |call| {
-        let [image, new, replies, events, answer] = &mut call.buffers[..] else {
-            panic!()
-        };
+        let [image, new, replies, events, answer] = many(&mut call.buffers);
         function(image, new, call.small, replies, events, answer)
     }
 }
 
 fn publisher_start(function: PublisherStart) -> impl Fn(&mut Call) -> u32 {
     move |call| {
-        let [image, new, state, answer] = &mut call.buffers[..] else {
-            panic!()
-        };
+        let [image, new, state, answer] = many(&mut call.buffers);
         function(image, new, call.small, state, answer)
     }
 }
 
 fn publisher_call(call: &mut Call) -> u32 {
-    let [state, answer] = &mut call.buffers[..] else {
-        panic!()
-    };
+    let [state, answer] = many(&mut call.buffers);
     calls::publisher_call(state, call.small, answer)
 }
 
 fn sheet_write(call: &mut Call) -> u32 {
-    let [number, image, sheet] = &mut call.buffers[..] else {
-        panic!()
-    };
+    let [number, image, sheet] = many(&mut call.buffers);
     calls::sheet_write(number, image, sheet)
 }
 
 fn sheet_read(call: &mut Call) -> u32 {
-    let [sheet, number, image] = &mut call.buffers[..] else {
-        panic!()
-    };
+    let [sheet, number, image] = many(&mut call.buffers);
     calls::sheet_read(sheet, number, image)
 }
 
 fn list(call: &mut Call) -> u32 {
-    let [sheet, text, answer] = &mut call.buffers[..] else {
-        panic!()
-    };
+    let [sheet, text, answer] = many(&mut call.buffers);
     calls::list(sheet, text, answer)
 }
 
 fn variation(call: &mut Call) -> u32 {
-    let [image, answer] = &mut call.buffers[..] else {
-        panic!()
-    };
+    let [image, answer] = many(&mut call.buffers);
     calls::variation(image, call.tenths, call.column, answer)
 }
 
 fn sheet_variation(call: &mut Call) -> u32 {
-    let [sheet, answer] = &mut call.buffers[..] else {
-        panic!()
-    };
+    let [sheet, answer] = many(&mut call.buffers);
     calls::sheet_variation(sheet, call.tenths, call.column, answer)
 }
 
@@ -562,7 +561,7 @@ fn the_chip() {
 
 #[test]
 fn the_image() {
-    let good = Call::new(vec![image(), mark(16)], PAGE as u8);
+    let good = Call::new(vec![image(), mark(16)], PAGE as u32);
     let faults = [
         fault(1, |call| shorten(call, 0)),
         fault(10, |call| lengthen(call, 1)),
@@ -591,7 +590,7 @@ fn the_image() {
     assert_lengths("free_page", free_page, &good, 0, other_lengths(1));
     assert_lengths("free_page", free_page, &good, 1, other_lengths(10));
 
-    let good = Call::new(vec![image(), mark(32)], PAGE as u8);
+    let good = Call::new(vec![image(), mark(32)], PAGE as u32);
     let faults = [
         fault(1, |call| shorten(call, 0)),
         fault(10, |call| lengthen(call, 1)),
@@ -602,7 +601,7 @@ fn the_image() {
     assert_lengths("page", page, &good, 1, other_lengths(10));
 
     let new = mark(32);
-    let good = Call::new(vec![image(), NUMBER.to_vec(), new, mark(16)], PAGE as u8);
+    let good = Call::new(vec![image(), NUMBER.to_vec(), new, mark(16)], PAGE as u32);
     let faults = with(
         vec![
             fault(1, |call| lengthen(call, 0)),
@@ -653,7 +652,7 @@ fn the_number_read() {
 fn the_page_read() {
     let replies = page_replies();
     let length = replies.len();
-    let good = Call::new(vec![replies, mark(length), mark(32), mark(16)], PAGE as u8);
+    let good = Call::new(vec![replies, mark(length), mark(32), mark(16)], PAGE as u32);
     let faults = [
         fault(2, |call| call.buffers[0][200] = 255),
         fault(10, |call| shorten(call, 3)),
@@ -667,7 +666,7 @@ fn the_page_read() {
     assert_lengths("page_run", page_run, &good, 2, other_lengths(10));
     assert_lengths("page_run", page_run, &good, 3, other_lengths(10));
 
-    let good = Call::new(vec![mark(48)], PAGE as u8);
+    let good = Call::new(vec![mark(48)], PAGE as u32);
     let faults = [
         fault(10, |call| shorten(call, 0)),
         fault(3, |call| call.small = 64),
@@ -693,7 +692,7 @@ fn the_publisher() {
     let replies = vec![1, 0, 1, 1, 0];
     let good = Call::new(
         vec![image(), mark(32), replies, mark(5), mark(16)],
-        PAGE as u8,
+        PAGE as u32,
     );
     let faults = with(
         vec![
@@ -715,7 +714,7 @@ fn the_publisher() {
         }
     }
 
-    let good = Call::new(vec![image(), mark(32), mark(48), mark(16)], PAGE as u8);
+    let good = Call::new(vec![image(), mark(32), mark(48), mark(16)], PAGE as u32);
     let faults = with(
         vec![
             fault(1, |call| lengthen(call, 0)),
@@ -916,16 +915,17 @@ fn bytes_that_are_no_event_or_reply() {
             }
         }
         for calls in [&[][..], &[1], &[1, 0]] {
-            let mut call = Call::new(vec![number_state(calls), mark(16)], byte);
+            let mut call = Call::new(vec![number_state(calls), mark(16)], byte.into());
             let before = call.clone();
             assert_eq!(number_call(&mut call), 2);
             assert!(call == before);
-            let mut call = Call::new(vec![page_state(calls), mark(32), mark(16)], byte);
+            let mut call = Call::new(vec![page_state(calls), mark(32), mark(16)], byte.into());
             let before = call.clone();
             assert_eq!(page_call(&mut call), 2);
             assert!(call == before);
             for (_, start) in PUBLISHER_STARTS {
-                let mut call = Call::new(vec![publisher_state(start, calls), mark(16)], byte);
+                let mut call =
+                    Call::new(vec![publisher_state(start, calls), mark(16)], byte.into());
                 let before = call.clone();
                 assert_eq!(publisher_call(&mut call), 2);
                 assert!(call == before);
@@ -938,19 +938,19 @@ fn bytes_that_are_no_event_or_reply() {
 /// buffer of a page until Final.
 #[test]
 fn what_accepted_calls_write() {
-    let mut call = Call::new(vec![image(), mark(16)], PAGE as u8);
+    let mut call = Call::new(vec![image(), mark(16)], PAGE as u32);
     assert_eq!(walk(&mut call), 0);
     assert_eq!(call.buffers[0], image());
     assert_eq!(call.buffers[1][..3], [0xFF, 9, 1]);
     assert_eq!(call.buffers[1][3..], mark(16)[3..]);
 
-    let mut call = Call::new(vec![image(), mark(16)], PAGE as u8);
+    let mut call = Call::new(vec![image(), mark(16)], PAGE as u32);
     assert_eq!(free_page(&mut call), 0);
     assert_eq!(call.buffers[1][..2], [0xFF, 1]);
     assert_eq!(call.buffers[1][2..], mark(16)[2..]);
 
     for (_, function) in PUBLISHER_STARTS {
-        let mut call = Call::new(vec![image(), mark(32), mark(48), mark(16)], PAGE as u8);
+        let mut call = Call::new(vec![image(), mark(32), mark(48), mark(16)], PAGE as u32);
         assert_eq!(publisher_start(function)(&mut call), 0);
         assert_eq!(call.buffers[..2], [image(), mark(32)]);
         assert_eq!(call.buffers[3][0], 0xFF);
@@ -959,7 +959,7 @@ fn what_accepted_calls_write() {
 
     for (_, function) in UPDATES {
         let buffers = vec![image(), NUMBER.to_vec(), mark(32), mark(16)];
-        let mut call = Call::new(buffers, PAGE as u8);
+        let mut call = Call::new(buffers, PAGE as u32);
         assert_eq!(update(function)(&mut call), 0);
         assert_eq!(call.buffers[3][..3], [0xFF, 9, 1]);
         assert_eq!(call.buffers[3][3..], mark(16)[3..]);
@@ -995,7 +995,7 @@ fn what_accepted_calls_write() {
         let mut replies = vec![0; 18];
         replies[0] = 1;
         let buffers = vec![image(), mark(32), replies, mark(18), mark(16)];
-        let mut call = Call::new(buffers, PAGE as u8);
+        let mut call = Call::new(buffers, PAGE as u32);
         assert_eq!(publisher_run(function)(&mut call), 0);
         assert_eq!(call.buffers[0], image());
         assert_eq!(call.buffers[4][1..], mark(16)[1..]);
@@ -1006,7 +1006,7 @@ fn what_accepted_calls_write() {
     assert_eq!(runs, [[2, 0xCC, 0x55], [2, 0xCC, 0xF5]]);
 
     // A run with no reply tells the reset to come and writes nothing else.
-    let mut call = Call::new(vec![vec![], vec![], mark(32), mark(16)], PAGE as u8);
+    let mut call = Call::new(vec![vec![], vec![], mark(32), mark(16)], PAGE as u32);
     assert_eq!(page_run(&mut call), 0);
     assert_eq!(call.buffers[2], mark(32));
     assert_eq!(call.buffers[3][0], 2);
@@ -1020,7 +1020,7 @@ fn what_accepted_calls_write() {
     for (place, &reply) in replies.iter().enumerate() {
         assert_eq!(buffer, mark(32));
         answer.copy_from_slice(&mark(16));
-        let code = calls::page_call(&mut state, reply, &mut buffer, &mut answer);
+        let code = calls::page_call(&mut state, reply.into(), &mut buffer, &mut answer);
         assert_eq!(code, 0);
         let values = if place + 1 < replies.len() { 1 } else { 3 };
         assert_eq!(answer[values..], mark(16)[values..]);

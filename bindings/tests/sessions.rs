@@ -5,11 +5,11 @@
 mod common;
 
 use common::{any_event, session, to_model};
-use ds2505::{chip_run, Chip, Event};
 use ds2505_model::bits::bits_of;
 use ds2505_model::chip::Chip as ModelChip;
 use ds2505_model::memory::blank_image;
 use ds2505_model::random::{any_image, used_image, Generator};
+use plug::{chip_run, Chip, Event};
 
 /// The events that each test sends at the least.
 const EVENTS: usize = 5_000_000;

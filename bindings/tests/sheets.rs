@@ -3,11 +3,11 @@
 mod common;
 
 use common::{blank_gaps, refusal, some_image, some_number};
-use ds2505::{calls, crc16, crc8, list, sheet_read, sheet_write, Refusal};
 use ds2505_model as model;
 use ds2505_model::crc::Crc16;
 use ds2505_model::memory::blank_image;
 use ds2505_model::random::Generator;
+use plug::{calls, crc16, crc8, list, sheet_read, sheet_write, Refusal};
 
 const FAULTY: Refusal = Refusal {
     number: 12,

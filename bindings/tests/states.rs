@@ -10,12 +10,12 @@ use common::{
     all_events, any_event, crc_slots, image_to_update, mode_of_model, session, some_image,
     some_number, sound_number, start_model, status, to_model, write_commands, MODES,
 };
-use ds2505::{calls, Answer, Chip, Event, Publisher, WriteMode};
 use ds2505_model::bits::bits_of_byte;
 use ds2505_model::chip::{Chip as ModelChip, Stage, Target};
 use ds2505_model::crc::{crc16, crc8, Crc16};
 use ds2505_model::memory::{DataAddress, StatusAddress};
 use ds2505_model::random::{any_image, Generator};
+use plug::{calls, Answer, Chip, Event, Publisher, WriteMode};
 
 /// A state's enum, then, from `place` on, its other fields, and after the
 /// front its array.
@@ -219,7 +219,7 @@ const NUMBER: Machine = Machine {
     step: |g, state| {
         let mut answer = mark(16);
         let before = state.to_vec();
-        let code = calls::number_call(state, u8::from(g.bit()), &mut answer);
+        let code = calls::number_call(state, u32::from(g.bit()), &mut answer);
         if code != 0 {
             assert_eq!(answer, mark(16));
         }
@@ -238,7 +238,7 @@ const PAGE: Machine = Machine {
         let mut answer = mark(16);
         let mut buffer = mark(32);
         let before = state.to_vec();
-        let code = calls::page_call(state, u8::from(g.bit()), &mut buffer, &mut answer);
+        let code = calls::page_call(state, u32::from(g.bit()), &mut buffer, &mut answer);
         if code != 0 {
             assert_eq!(buffer, mark(32));
             let from = if code == 5 { 2 } else { 0 };
@@ -259,7 +259,7 @@ const PUBLISHER: Machine = Machine {
     step: |g, state| {
         let mut answer = mark(16);
         let before = state.to_vec();
-        let code = calls::publisher_call(state, u8::from(g.bit()), &mut answer);
+        let code = calls::publisher_call(state, u32::from(g.bit()), &mut answer);
         if code != 0 {
             let from = if [5, 9, 20].contains(&code) { 2 } else { 0 };
             assert_eq!(answer[from..], mark(16)[from..]);
@@ -403,7 +403,7 @@ fn number_states() {
             let mut answer = [0; 16];
             calls::number_call(&mut state, reply, &mut answer);
             if let Some(event) = Event::of_code(answer[0]) {
-                reply = u8::from(model.event(to_model(event)));
+                reply = u32::from(model.event(to_model(event)));
             }
         }
         states.push(state);
@@ -419,13 +419,13 @@ fn page_states() {
     for _ in 0..150 {
         let mut model = ModelChip::power_up([0; 8], some_image(&mut g)).unwrap();
         let mut state = vec![0; 48];
-        assert_eq!(calls::page_start(g.below(64) as u8, &mut state), 0);
+        assert_eq!(calls::page_start(g.below(64) as u32, &mut state), 0);
         let mut reply = 1;
         for _ in 0..g.below(700) {
             let mut answer = [0xFF; 16];
             calls::page_call(&mut state, reply, &mut [0; 32], &mut answer);
             if let Some(event) = Event::of_code(answer[0]) {
-                reply = u8::from(model.event(to_model(event)) != g.once_in(2000));
+                reply = u32::from(model.event(to_model(event)) != g.once_in(2000));
             }
         }
         states.push(state);

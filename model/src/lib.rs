@@ -13,6 +13,7 @@
 pub mod bits;
 pub mod chip;
 pub mod crc;
+pub mod demo;
 pub mod free;
 pub mod lookup;
 pub mod lookup_cases;

@@ -86,6 +86,21 @@ fn damaged() -> Vec<u8> {
     image
 }
 
+/// The navigator's plug: eight bands, the first superseded once, and a byte on
+/// page 5 that names page 200.
+fn navigator() -> Vec<u8> {
+    let mut image = blank_image();
+    for band in 1..=8usize {
+        put_page(&mut image, band, &variations(band as i16, 0));
+        mark_used(&mut image, band);
+    }
+    let mut image = publisher::update(&image, &variations(1, 1), 1, WriteMode::Ordinary, None)
+        .expect("there is a free page")
+        .image;
+    redirect(&mut image, 5, 0x37);
+    image
+}
+
 /// Every page used.
 fn full() -> Vec<u8> {
     let mut image = blank_image();
@@ -139,6 +154,7 @@ pub(crate) fn stored(image: &[u8]) -> Vec<u8> {
 pub fn shipped() -> Vec<(&'static str, Vec<u8>)> {
     let mut samples = listed();
     samples.push(("variation", stored(&variation())));
+    samples.push(("navigator", stored(&navigator())));
     samples
 }
 

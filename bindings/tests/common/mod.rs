@@ -3,12 +3,12 @@
 //! master.
 #![allow(dead_code)]
 
-use ds2505::{Answer, Event, Final, Published, Refusal, Verdict, WriteMode};
 use ds2505_model as model;
 use ds2505_model::bits::{bits_of, bits_of_byte};
 use ds2505_model::crc::crc8;
 use ds2505_model::memory::{blank_image, StatusAddress, StatusMeaning, DATA_LENGTH};
 use ds2505_model::random::{any_image, chain_image, used_image, Generator};
+use plug::{Answer, Event, Final, Published, Refusal, Verdict, WriteMode};
 
 // ---- the model's terms
 

@@ -12,14 +12,14 @@ mod tray;
 use std::hint::black_box;
 use std::time::{Duration, Instant};
 
-use ds2505::{
-    calls, Published, WriteMode, ANSWER_SIZE, CHIP_STATE_SIZE, NO_EVENT, PAGE_SIZE, PAGE_STATE_SIZE,
-};
 use ds2505_model::chip::Chip;
 use ds2505_model::page_read::{read_page, PageReading};
 use ds2505_model::publisher::{update, Outcome, Run};
 use ds2505_model::random::{chain_image, used_image, Generator};
 use ds2505_model::walk::Final;
+use plug::{
+    calls, Published, WriteMode, ANSWER_SIZE, CHIP_STATE_SIZE, NO_EVENT, PAGE_SIZE, PAGE_STATE_SIZE,
+};
 
 const NUMBER: [u8; 8] = [0x0B, 0x11, 0x22, 0x33, 0x44, 0x55, 0x66, 0x77];
 
@@ -70,13 +70,13 @@ fn compare(title: &str, work: usize, unit: &str, repetitions: usize, mut program
     }
 }
 
-fn model_event(event: ds2505::Event) -> ds2505_model::chip::Event {
+fn model_event(event: plug::Event) -> ds2505_model::chip::Event {
     use ds2505_model::chip::Event;
     match event {
-        ds2505::Event::Slot(bit) => Event::Slot(bit),
-        ds2505::Event::Reset => Event::Reset,
-        ds2505::Event::Pulse => Event::Pulse,
-        ds2505::Event::PowerLoss => Event::PowerLoss,
+        plug::Event::Slot(bit) => Event::Slot(bit),
+        plug::Event::Reset => Event::Reset,
+        plug::Event::Pulse => Event::Pulse,
+        plug::Event::PowerLoss => Event::PowerLoss,
     }
 }
 
@@ -122,7 +122,7 @@ fn chips() {
         "events",
         1000,
         vec![
-            timed("proved: ds2505_chip_run", || {
+            timed("proved: plug_chip_run", || {
                 black_box(proved(black_box(first)));
             }),
             timed("second model", || {
@@ -162,9 +162,14 @@ impl Joined {
         self.events.clear();
         self.replies.clear();
         assert_eq!(calls::chip_power_up(&NUMBER, &mut chip), 0);
-        assert_eq!(calls::page_start(page, &mut reader), 0);
+        assert_eq!(calls::page_start(page.into(), &mut reader), 0);
         loop {
-            let code = calls::page_call(&mut reader, reply[0], &mut self.buffer, &mut self.answer);
+            let code = calls::page_call(
+                &mut reader,
+                reply[0].into(),
+                &mut self.buffer,
+                &mut self.answer,
+            );
             assert_eq!(code, 0);
             self.replies.push(reply[0]);
             if self.answer[0] == NO_EVENT {
@@ -194,7 +199,7 @@ impl Joined {
         let sent = &mut told.events[..self.replies.len()];
         let chip = calls::chip_run(&NUMBER, &self.events, image, drawn);
         let master = calls::page_run(
-            page,
+            page.into(),
             &self.replies,
             sent,
             &mut told.buffer,
@@ -253,14 +258,14 @@ fn page_reads() {
         "events",
         6000,
         vec![
-            timed("proved: ds2505_page_call, ds2505_chip_events", || {
+            timed("proved: plug_page_call, plug_chip_events", || {
                 joined.read(black_box(5), &mut image);
                 black_box(&joined.buffer);
             }),
             timed("second model: reader and chip", || {
                 black_box(read_page(&mut chip, black_box(5)).unwrap());
             }),
-            timed("proved, as runs: ds2505_page_run, _chip_run", || {
+            timed("proved, as runs: plug_page_run, _chip_run", || {
                 black_box(recorded.runs(black_box(5), &mut runs_image, &mut told));
             }),
         ],
@@ -301,7 +306,7 @@ fn trays() {
         "events",
         20,
         vec![
-            timed("proved, as runs: ds2505_page_run, _chip_run", || {
+            timed("proved, as runs: plug_page_run, _chip_run", || {
                 for (image, reads) in runs_images
                     .iter_mut()
                     .zip(recorded.chunks(tray::PAGES.into()))
@@ -311,7 +316,7 @@ fn trays() {
                     }
                 }
             }),
-            timed("proved: ds2505_page_call, ds2505_chip_events", || {
+            timed("proved: plug_page_call, plug_chip_events", || {
                 for image in &mut joined_images {
                     for page in 0..tray::PAGES {
                         joined.read(page, image);
@@ -347,7 +352,7 @@ impl Update {
     fn proved(&self, mode: WriteMode) -> (Vec<u8>, Published) {
         let mut image = self.image.clone();
         let page = black_box(5);
-        let pages = ds2505::update(&mut image, &NUMBER, &self.new, page, mode, 1222).unwrap();
+        let pages = plug::update(&mut image, &NUMBER, &self.new, page, mode, 1222).unwrap();
         (image, pages)
     }
 
@@ -382,7 +387,7 @@ fn updates() {
         "events",
         6000,
         vec![
-            timed("proved: ds2505_update", || {
+            timed("proved: plug_update", || {
                 black_box(page.proved(WriteMode::Ordinary));
             }),
             timed("second model: publisher and chip", || {
@@ -404,13 +409,13 @@ fn quick_updates() {
         "bytes",
         6000,
         vec![
-            timed("proved: ds2505_update_quick", || {
+            timed("proved: plug_update_quick", || {
                 black_box(page.proved(WriteMode::Quick));
             }),
             timed("second model: quick publisher and chip", || {
                 black_box(page.model(WriteMode::Quick));
             }),
-            timed(&format!("proved: ds2505_update, {ordinary} events"), || {
+            timed(&format!("proved: plug_update, {ordinary} events"), || {
                 black_box(page.proved(WriteMode::Ordinary));
             }),
         ],
@@ -430,7 +435,7 @@ fn crcs() {
             .fold(0, |register, buffer| crc(register, black_box(buffer)))
     };
     let programs: [(&str, Crc); 4] = [
-        ("proved: ds2505_crc16", &calls::crc16),
+        ("proved: plug_crc16", &calls::crc16),
         (
             "plain loop in Rust, which LLVM makes a table of",
             &crc::plain,
@@ -462,7 +467,7 @@ fn crcs() {
 }
 
 fn main() {
-    println!("{}, release profile", env!("DS2505_RUSTC"));
+    println!("{}, release profile", env!("PLUG_RUSTC"));
     chips();
     page_reads();
     updates();

@@ -1,7 +1,7 @@
 //! The session that the chips are timed on, as events in bytes.
 
-use ds2505::Event;
 use ds2505_model::bits::bits_of;
+use plug::Event;
 
 fn send(events: &mut Vec<Event>, bytes: &[u8]) {
     events.extend(bits_of(bytes).into_iter().map(Event::Slot));

@@ -1,4 +1,0 @@
-pub mod Eight
-pub mod Judged
-pub mod Laws
-pub mod Sheets

@@ -1,5 +1,0 @@
-pub mod Walk
-pub mod Chain
-pub mod Scan
-pub mod Free
-pub mod Tray

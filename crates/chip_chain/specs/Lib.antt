@@ -1,0 +1,6 @@
+pub mod Walk
+pub mod Chain
+pub mod Scan
+pub mod Free
+pub mod Rows
+pub mod Code

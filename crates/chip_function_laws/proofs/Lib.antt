@@ -1,0 +1,4 @@
+pub mod Addresses
+pub mod Keeps
+pub mod Sending
+pub mod Sessions

@@ -1,4 +1,0 @@
-pub mod Polynomial
-pub mod Crc
-pub mod Table
-pub mod Tray

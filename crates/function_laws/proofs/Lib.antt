@@ -1,3 +1,0 @@
-pub mod Addresses
-pub mod Sending
-pub mod Sessions

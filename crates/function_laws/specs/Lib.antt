@@ -1,4 +1,0 @@
-pub mod Streams
-pub mod Addresses
-pub mod Reads
-pub mod Writes

@@ -1,1 +1,0 @@
-// Laws over whole sessions of the memory functions: specs/ states them, proofs/ proves them. There is no code.

@@ -1,4 +1,0 @@
-pub mod Answers
-pub mod Order
-pub mod Superseding
-pub mod Told

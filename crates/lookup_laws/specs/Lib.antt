@@ -1,2 +1,0 @@
-pub mod Superseding
-pub mod Told

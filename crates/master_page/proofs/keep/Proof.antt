@@ -1,0 +1,9 @@
+use borrow.Author.Needs.{needs}
+use Rattle.master_page.proofs.keep.Statement.{statement}
+use Rattle.master_page.proofs.keep.Tie as tie
+
+pub keep-spec : {M : Type 1} → statement M
+keep-spec =
+    tie.close (tie.spec
+    (λ c κs. search needs) (λ c κs. search needs)
+    (λ c. simp (c .next-data .ensures, c .before .store .ensures)))

@@ -1,0 +1,4 @@
+pub mod Code
+pub mod Page
+pub mod PageRead
+pub mod Held

@@ -1,0 +1,4 @@
+pub mod Code
+pub mod Kind
+pub mod Places
+pub mod Plan

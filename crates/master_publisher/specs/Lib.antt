@@ -1,0 +1,5 @@
+pub mod Call
+pub mod Code
+pub mod Rows
+pub mod Start
+pub mod Stop

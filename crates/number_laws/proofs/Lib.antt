@@ -1,6 +1,0 @@
-pub mod Demand
-pub mod Derived
-pub mod Ds2505
-pub mod Listed
-pub mod Plays
-pub mod Ranges

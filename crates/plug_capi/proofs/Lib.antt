@@ -1,0 +1,5 @@
+pub mod Eight
+pub mod Judged
+pub mod Laws
+pub mod Pages
+pub mod Sheets

@@ -1,0 +1,3 @@
+pub mod Header
+pub mod Lookup
+pub mod Rows

@@ -1,0 +1,2 @@
+-- Definitions that only mirror private code: no public contract is stated by them alone.
+pub mod Chip

@@ -1,0 +1,4 @@
+pub mod List
+pub mod Stored
+pub mod Text
+pub mod Rows

@@ -1,3 +1,0 @@
-pub mod Call
-pub mod Start
-pub mod Tray

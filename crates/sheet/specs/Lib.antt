@@ -1,4 +1,0 @@
-pub mod List
-pub mod Stored
-pub mod Text
-pub mod Tray

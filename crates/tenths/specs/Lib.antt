@@ -1,2 +1,0 @@
-pub mod Tenths
-pub mod Tray

@@ -1,6 +1,0 @@
-pub mod Collect
-pub mod Filled
-pub mod Refusals
-pub mod Scan
-pub mod Values
-pub mod Words
