@@ -2,5 +2,4 @@ pub mod Walk
 pub mod Chain
 pub mod Scan
 pub mod Free
-pub mod Rows
 pub mod Code

@@ -1,10 +1,15 @@
--- An entry on a page judges as the judgement of a page does, and then goes on.
+-- What the entries on a page and those on a chip judge, and how they then go on.
 use Prim.Native.Nat.{ℕ}
-use mathlib.Core.Path.{_≡_, refl}
-use mathlib.Core.Bool.{Bool, true, false}
+use mathlib.Core.Path.{_≡_, refl, sym, ap, _∙_}
+use mathlib.Core.Bool.{Bool, true, false, _&&_}
 use mathlib.Core.List.{List}
-use Rattle.base_types.specs.Outcome.{Outcome, accepted, judge, Done, done, following}
+use native.Mathlib.Omega.{arith}
+use Rattle.base_types.specs.Outcome.{Outcome, refused, accepted, judge, Done, done, following, inOrder}
+use Rattle.bus_events.specs.declared.Event.{Event}
 use Rattle.chip_memory.specs.Layout.{isImage, isPage}
+use Rattle.chip_entries.specs.declared.event.Stage.{Stage}
+use Rattle.chip_entries.specs.declared.event.State.{State}
+use Rattle.chip_entries.specs.Event.{chipInRange, replyOf, imageAfter, stageAfter, eventAnswer, eventState, eventImage}
 use Rattle.chip_entries.specs.Page.{onPage, pageAnswer}
 
 pub on-page : {A : Type 0} (n : ℕ) (img : List ℕ) (p : ℕ) {j : Outcome Done} (answer : Outcome A) → j ≡ pageAnswer n img p
@@ -16,3 +21,47 @@ on-page n img p answer e = rw e (go (isImage n img) (isPage n p))
     go true true = refl
     go true false = refl
     go false t = refl
+
+-- ---- the judgement of a chip
+
+first-right : (a b : Bool) → (a && b) ≡ true → a ≡ true
+first-right true b e = refl
+first-right false b e = e
+
+-- what is accepted is right in each part
+pub all-right : (image ranges more lengths : Bool) → accepted done ≡ inOrder image (ranges && more) lengths
+    → (image ≡ true) × ((ranges ≡ true) × (lengths ≡ true))
+all-right image ranges more lengths e = go image (ranges && more) lengths refl e
+  where
+    go : (a b c : Bool) → (ranges && more) ≡ b → accepted done ≡ inOrder a b c → (a ≡ true) × ((ranges ≡ true) × (c ≡ true))
+    go true true true h e = (refl, (first-right ranges more h, refl))
+    go true true false h e = absurd (let y : _≡_ {A = ℕ} 0 1 = cc in omega arith)
+    go true false c h e = absurd (let y : _≡_ {A = ℕ} 0 1 = cc in omega arith)
+    go false b c h e = absurd (let y : _≡_ {A = ℕ} 0 1 = cc in omega arith)
+
+module _ (n : ℕ) (s : State) (e : Event) (img : List ℕ) where
+  abbrev judged : Outcome Done
+  judged = inOrder (isImage n img) (chipInRange n (s .stage) && true) true
+
+  event-told : eventAnswer n s e img ≡ following judged (accepted (replyOf (s .stage) e (s .number)))
+  unfolding eventAnswer
+  event-told = go (isImage n img) (chipInRange n (s .stage)) (accepted (replyOf (s .stage) e (s .number)))
+    where
+      go : (a b : Bool) (x : Outcome Bool) → judge a 1 (judge b 2 x) ≡ following (inOrder a (b && true) true) x
+      go true true x = refl
+      go true false x = refl
+      go false b x = refl
+
+  told-by : {j : Outcome Done} → j ≡ judged → eventAnswer n s e img ≡ following j (accepted (replyOf (s .stage) e (s .number)))
+  told-by j = event-told ∙ ap (λ (o : Outcome Done). following o (accepted (replyOf (s .stage) e (s .number)))) (sym j)
+
+  pub event-refused : {k : ℕ} {vs : List ℕ} → refused k vs ≡ judged
+      → (refused k vs ≡ eventAnswer n s e img) × ((s ≡ eventState n s e img) × (img ≡ eventImage n s e img))
+  unfolding eventState eventImage
+  event-refused j = (sym (told-by j), (simp (told-by j), simp (told-by j)))
+
+  pub event-accepted : accepted done ≡ judged → (bit : Bool) (next : Stage) (img' : List ℕ) → bit ≡ replyOf (s .stage) e (s .number)
+      → img' ≡ imageAfter n (s .stage) e img → next ≡ stageAfter n (s .stage) e (s .number) img'
+      → (accepted bit ≡ eventAnswer n s e img) × ((record { stage = next; number = s .number } ≡ eventState n s e img) × (img' ≡ eventImage n s e img))
+  unfolding eventState eventImage
+  event-accepted j bit next img' b i x = (ap accepted b ∙ sym (told-by j), (simp (told-by j, x, i), simp (told-by j, i)))

@@ -114,9 +114,9 @@ module _ (n : ℕ) (s : State) (codes img replies : List ℕ) where
       × ((image ≡ ranChip n s codes img replies .image)
       × (lines ≡ ranReplies n s codes img replies)))
 
-  pub refused-run : (k : ℕ) → runAnswer n s codes img replies ≡ refused k [] → Promised (refused k []) s img replies
+  pub refused-run : {k : ℕ} {vs : List ℕ} → runAnswer n s codes img replies ≡ refused k vs → Promised (refused k vs) s img replies
   unfolding ranChip ranReplies
-  refused-run k e = (sym e, (simp e, (simp e, simp e)))
+  refused-run e = (sym e, (simp e, (simp e, simp e)))
 
   ran-chip : runAnswer n s codes img replies ≡ accepted done → ranChip n s codes img replies ≡ run n (record { state = s; image = img }) (eventsAt codes)
   unfolding ranChip

@@ -1,8 +1,8 @@
 // The chip, driven by bus events.
 ghost use mathlib.Core.Path.{_≡_};
-ghost use mathlib.Core.Bool.{true};
+ghost use mathlib.Core.Bool.{true, _&&_};
 ghost use Rattle.base_types.specs.Bits.{one};
-ghost use Rattle.base_types.specs.Outcome.{judgedOutcome};
+ghost use Rattle.base_types.specs.Outcome.{judgedOutcome, inOrder};
 ghost use Rattle.chip_memory.specs.Layout.{pageCount, isImage};
 ghost use lib.ListN.{length, set};
 ghost use Rattle.chip_entries.specs.Run.{areEvents, replyBytes, eventsAt, chipWith, run, runAnswer, ranChip, ranReplies};
@@ -10,6 +10,7 @@ ghost use Rattle.chip_entries.specs.Event.{powerUp, afterRom, stageSlot,
 ghost use Rattle.chip_entries.specs.Event.{eventOutcome, eventAnswer, eventState, eventImage};
 use base_types::address::Page;
 use base_types::bits;
+use base_types::refusal;
 use base_types::refusal::Judged;
 use base_types::refusal::Refusal;
 use bus_events::Event;
@@ -127,34 +128,42 @@ fn advance(last: Page, stage: Stage, event: Event, number: [u8; 8], image: &mut 
     }
 }
 
+// What every entry on a chip judges: the image, the stage and what else has a range, and the other buffers' lengths. Refused: 1, 2, 10.
+fn judge(image: &[u8], stage: Stage, ranges: bool, lengths: bool) -> Judged
+    ensures { λ r. ⌜ judgedOutcome r ≡ inOrder (isImage 64 (now (image .entry))) (chipInRange 64 stage && ranges) lengths ⌝ }
+{
+    let last = Page(layout::DS2505);
+    refusal::in_order(
+        layout::is_image(image, last),
+        bits::line(in_range(last, stage), ranges),
+        lengths,
+    )
+}
+
 // One event. Refused: 1, 2; the state is then the same and the image untouched.
 pub fn event(state: State, event: Event, image: &mut [u8]) -> Stepped
     ensures answer { λ r. ⌜ eventOutcome (r .answer) ≡ eventAnswer 64 state event (now (image .entry)) ⌝ }
     ensures state { λ r. ⌜ r .state ≡ eventState 64 state event (now (image .entry)) ⌝ }
     ensures image { λ r. ⌜ now (image .exit) ≡ eventImage 64 state event (now (image .entry)) ⌝ }
 {
-    if !layout::is_image(image, Page(layout::DS2505)) {
-        return Stepped {
-            answer: Answer::Refused(Refusal::ImageLength),
-            state,
-        };
-    }
     let stage = state.stage;
     let number = state.number;
-    if !in_range(Page(layout::DS2505), stage) {
-        return Stepped {
-            answer: Answer::Refused(Refusal::StateRange),
+    match judge(image, stage, true, true) {
+        Judged::Refused(r) => Stepped {
+            answer: Answer::Refused(r),
             state,
-        };
-    }
-    let bit = reply(stage, event, number);
-    let next = advance(Page(layout::DS2505), stage, event, number, image);
-    Stepped {
-        answer: Answer::Reply(bit),
-        state: State {
-            stage: next,
-            number,
         },
+        Judged::Accepted => {
+            let bit = reply(stage, event, number);
+            let next = advance(Page(layout::DS2505), stage, event, number, image);
+            Stepped {
+                answer: Answer::Reply(bit),
+                state: State {
+                    stage: next,
+                    number,
+                },
+            }
+        }
     }
 }
 
@@ -212,36 +221,25 @@ pub fn run(state: State, codes: &[u8], image: &mut [u8], replies: &mut [u8]) -> 
 {
     let stage = state.stage;
     let number = state.number;
-    if !layout::is_image(image, Page(layout::DS2505)) {
-        return Ran {
-            answer: Judged::Refused(Refusal::ImageLength),
+    match judge(
+        image,
+        stage,
+        are_events(codes),
+        replies.len() == codes.len(),
+    ) {
+        Judged::Refused(r) => Ran {
+            answer: Judged::Refused(r),
             state,
-        };
-    }
-    if !in_range(Page(layout::DS2505), stage) {
-        return Ran {
-            answer: Judged::Refused(Refusal::StateRange),
-            state,
-        };
-    }
-    if !are_events(codes) {
-        return Ran {
-            answer: Judged::Refused(Refusal::StateRange),
-            state,
-        };
-    }
-    if replies.len() != codes.len() {
-        return Ran {
-            answer: Judged::Refused(Refusal::BufferLength),
-            state,
-        };
-    }
-    let next = run_within(stage, number, codes, image, replies);
-    Ran {
-        answer: Judged::Accepted,
-        state: State {
-            stage: next,
-            number,
         },
+        Judged::Accepted => {
+            let next = run_within(stage, number, codes, image, replies);
+            Ran {
+                answer: Judged::Accepted,
+                state: State {
+                    stage: next,
+                    number,
+                },
+            }
+        }
     }
 }
