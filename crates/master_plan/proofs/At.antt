@@ -1,7 +1,7 @@
 -- The steps by position are the elements of the plan's list.
 use Prim.Native.Nat.{ℕ, zero, suc, _+_, _-_, _*_, _/_, _%_, _^_, _<_, _≤_}
 use mathlib.Core.Path.{_≡_, refl, sym, _∙_, ap}
-use mathlib.Core.Bool.{Bool, true, cond}
+use mathlib.Core.Bool.{Bool, true, false, cond}
 use mathlib.Core.List.{List, [], _∷_, _++_}
 use native.Mathlib.Omega.{arith}
 use native.Mathlib.Decide.{decLt}
@@ -22,7 +22,9 @@ use Rattle.bus_events.specs.Slots.{slots}
 use Rattle.master_plan.specs.Kind.{selecting, headCount, crcCount, byteCount, writeCount}
 use Rattle.master_plan.specs.Places.{bitmapAddress, clearing, pageAddress, redirectionAddress, naming, addressOf, headOf}
 use Rattle.master_plan.specs.Plan.{step, resetStep, pulseStep, freely, sendSteps, readSteps, crcSteps, backSteps, byteSteps, bytesSteps, headSteps, writeSteps, planOf}
-use Rattle.master_plan.specs.Code.At.{sendAt, crcAt, backAt, byteAt, headByte, headAt, registerAt, numberAt, writeAt}
+use Rattle.master_plan.specs.Code.At.{sendAt, crcAt, backAt, byteAt, headByte, headAt, registerAt, numberAt, writeAt, partAt}
+use Rattle.master_plan.specs.declared.Part.{Part}
+use Rattle.master_plan.specs.declared.Part.the-variants.{Bitmap, NewPage, Link, Closing}
 use Rattle.master_plan.specs.declared.Step.{Step}
 use Rattle.master_plan.specs.declared.Wanted.{Wanted}
 use Rattle.master_plan.specs.declared.Wanted.the-variants.{Anything, Bit, LastCrcBit, LastBackBit}
@@ -192,7 +194,7 @@ module _ (kind : UpdateKind) where
   closing-at zero = refl
   closing-at (suc i) = refl
 
-  pub plan-at : (l t used : ℕ) (new : List ℕ) (k : ℕ) → length new ≡ 32
+  in-parts : (l t used : ℕ) (new : List ℕ) (k : ℕ) → length new ≡ 32
       → cond (ltb k (writeCount kind 1)) (writeAt kind (Status (bitmapAddress t)) used (clearing t) k)
       (cond (ltb (k - writeCount kind 1) (writeCount kind 32))
       (writeAt kind (Data (pageAddress t)) 255 (getD new (numberAt kind (k - writeCount kind 1)) 0) (k - writeCount kind 1))
@@ -200,7 +202,7 @@ module _ (kind : UpdateKind) where
       (writeAt kind (Status (redirectionAddress l)) 255 (naming t .0) (k - writeCount kind 1 - writeCount kind 32)) resetStep))
       ≡ getD (planOf kind l t used new) k resetStep
   unfolding planOf
-  plan-at l t used new k long =
+  in-parts l t used new k long =
       in-either (writeSteps kind (Status (bitmapAddress t)) used (clearing t ∷ [])) _ (writeCount kind 1) k _ _
       (write-length kind (Status (bitmapAddress t)) used (clearing t ∷ [])) (one-byte-at (Status (bitmapAddress t)) used (clearing t) k)
       (λ _. in-either (writeSteps kind (Data (pageAddress t)) 255 new) _ (writeCount kind 32) (k - writeCount kind 1) _ _
@@ -210,3 +212,28 @@ module _ (kind : UpdateKind) where
       (write-length kind (Status (redirectionAddress l)) 255 (naming t .0 ∷ []))
       (one-byte-at (Status (redirectionAddress l)) 255 (naming t .0) (k - writeCount kind 1 - writeCount kind 32))
       (λ _. closing-at (k - writeCount kind 1 - writeCount kind 32 - writeCount kind 1))))
+
+  -- the step of a part
+  abbrev pub stepIn : Part → ℕ → ℕ → ℕ → List ℕ → Step
+  stepIn (Bitmap i) l t used new = writeAt kind (Status (bitmapAddress t)) used (clearing t) i
+  stepIn (NewPage i) l t used new = writeAt kind (Data (pageAddress t)) 255 (getD new (numberAt kind i) 0) i
+  stepIn (Link i) l t used new = writeAt kind (Status (redirectionAddress l)) 255 (naming t .0) i
+  stepIn Closing l t used new = resetStep
+
+  pub plan-at : (l t used : ℕ) (new : List ℕ) (k : ℕ) → length new ≡ 32 → {part : Part} → part ≡ partAt kind k
+      → stepIn part l t used new ≡ getD (planOf kind l t used new) k resetStep
+  unfolding partAt
+  plan-at l t used new k long e =
+      ap (λ (part : Part). stepIn part l t used new) e
+      ∙ go (ltb k (writeCount kind 1)) (ltb (k - writeCount kind 1) (writeCount kind 32))
+      (ltb (k - writeCount kind 1 - writeCount kind 32) (writeCount kind 1))
+      ∙ in-parts l t used new k long
+    where
+      go : (a b c : Bool) → stepIn (cond a (Bitmap k) (cond b (NewPage (k - writeCount kind 1)) (cond c (Link (k - writeCount kind 1 - writeCount kind 32)) Closing))) l t used new
+          ≡ cond a (writeAt kind (Status (bitmapAddress t)) used (clearing t) k)
+          (cond b (writeAt kind (Data (pageAddress t)) 255 (getD new (numberAt kind (k - writeCount kind 1)) 0) (k - writeCount kind 1))
+          (cond c (writeAt kind (Status (redirectionAddress l)) 255 (naming t .0) (k - writeCount kind 1 - writeCount kind 32)) resetStep))
+      go true b c = refl
+      go false true c = refl
+      go false false true = refl
+      go false false false = refl

@@ -8,7 +8,7 @@ ghost use Rattle.base_crc.specs.Crc.{crc16Of};
 ghost use Rattle.master_plan.specs.Kind.{byteCount};
 ghost use Rattle.master_plan.specs.Places.{bitmapAddress, clearing, pageAddress, redirectionAddress, naming, spaceOf, addressOf, headOf};
 ghost use Rattle.master_plan.specs.Plan.{resetStep, pulseStep, planOf};
-ghost use Rattle.master_plan.specs.Code.At.{sendAt, crcAt, backAt, byteAt, headByte, headAt, registerAt, numberAt, writeAt};
+ghost use Rattle.master_plan.specs.Code.At.{sendAt, crcAt, backAt, byteAt, headByte, headAt, registerAt, numberAt, writeAt, partAt};
 use crate::kind::UpdateKind;
 use base_types::address::DataAddress;
 use base_types::address::Page;
@@ -294,37 +294,55 @@ fn new_byte(new: [u8; 32], j: u16) -> u8
     if at < 32 { new[at] } else { 0 }
 }
 
+// To which part of the plan an event belongs, and which it is of that part: the write of the bitmap byte, that of the new page, that of the
+// redirection byte, and the closing reset.
+pub enum Part {
+    Bitmap(u16),
+    NewPage(u16),
+    Link(u16),
+    Closing,
+}
+
+fn part_at(kind: UpdateKind, k: u16) -> Part
+    ensures { λ r. ⌜ r ≡ partAt kind k ⌝ }
+{
+    let one = kind::one_byte_count(kind);
+    let page = kind::full_page_count(kind);
+    if k < one {
+        return Part::Bitmap(k);
+    }
+    let data = k - one;
+    if data < page {
+        return Part::NewPage(data);
+    }
+    let link = data - page;
+    if link < one {
+        Part::Link(link)
+    } else {
+        Part::Closing
+    }
+}
+
 // Event number k, counted from 0, of the plan that puts the bytes new into page t in the place of page l; used is t's bitmap byte.
 pub fn step_at(kind: UpdateKind, l: Page, t: Page, used: u8, new: [u8; 32], k: u16) -> Step
     ensures { λ r. ⌜ r ≡ getD (planOf kind (l .0) (t .0) used new) k resetStep ⌝ }
 {
-    let one = kind::one_byte_count(kind);
-    if k < one {
-        return write_at(
+    match part_at(kind, k) {
+        Part::Bitmap(i) => write_at(
             kind,
             Target::Status(bitmap_address(t)),
             used,
             clearing(t),
-            k,
-        );
-    }
-    let data = k - one;
-    let page = kind::full_page_count(kind);
-    if data < page {
-        let byte = new_byte(new, number_at(kind, data));
-        return write_at(kind, Target::Data(page_address(t)), 255, byte, data);
-    }
-    let link = data - page;
-    if link < one {
-        let byte = naming(t);
-        write_at(
-            kind,
-            Target::Status(redirection_address(l)),
-            255,
-            byte.0,
-            link,
-        )
-    } else {
-        reset_step()
+            i,
+        ),
+        Part::NewPage(i) => {
+            let byte = new_byte(new, number_at(kind, i));
+            write_at(kind, Target::Data(page_address(t)), 255, byte, i)
+        }
+        Part::Link(i) => {
+            let byte = naming(t);
+            write_at(kind, Target::Status(redirection_address(l)), 255, byte.0, i)
+        }
+        Part::Closing => reset_step(),
     }
 }

@@ -12,9 +12,11 @@ use Rattle.base_types.specs.declared.write_mode.WriteMode.{WriteMode}
 use Rattle.bus_events.specs.Events.{slot, readSlot}
 use Rattle.base_crc.specs.Crc.{crc16Byte, crc16Of, crc16Load, crc16Word}
 use Rattle.master_plan.specs.declared.Wanted.the-variants.{Anything, Bit, LastCrcBit, LastBackBit}
+use Rattle.master_plan.specs.declared.Part.{Part}
+use Rattle.master_plan.specs.declared.Part.the-variants.{Bitmap, NewPage, Link, Closing}
 use Rattle.master_plan.specs.declared.Step.{Step}
 use Rattle.master_plan.specs.declared.kind.UpdateKind.{UpdateKind}
-use Rattle.master_plan.specs.Kind.{selecting, headCount, crcCount, byteCount}
+use Rattle.master_plan.specs.Kind.{selecting, headCount, crcCount, byteCount, writeCount}
 use Rattle.master_plan.specs.Places.{addressOf, headOf}
 use Rattle.master_plan.specs.Plan.{step, resetStep, pulseStep}
 
@@ -54,3 +56,11 @@ writeAt kind target old byte i =
     cond (ltb i (headCount kind)) (headAt kind target i)
     (byteAt (kind .mode) (registerAt (addressOf target) (crc16Of (headOf (kind .mode) target)) (numberAt kind i)) old byte
     ((i - headCount kind) % byteCount (kind .mode)))
+
+-- to which part of the plan event k belongs, and which it is of that part
+unfoldable pub partAt : UpdateKind → ℕ → Part
+partAt kind k =
+    cond (ltb k (writeCount kind 1)) (Bitmap k)
+    (cond (ltb (k - writeCount kind 1) (writeCount kind 32)) (NewPage (k - writeCount kind 1))
+    (cond (ltb (k - writeCount kind 1 - writeCount kind 32) (writeCount kind 1)) (Link (k - writeCount kind 1 - writeCount kind 32))
+    Closing))
