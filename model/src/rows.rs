@@ -1,6 +1,6 @@
 //! The rows of the test tray that are run, those of 01 without a star and those
-//! that M-100, M-101 and M-104 added, in plain text. The program `plug_rows`
-//! must write the same.
+//! that M-100, M-101 and M-104 added, in plain text. The proved library must
+//! write the same (`bindings/tests/rows.rs`).
 
 use crate::bits::{bits_of, bytes_of};
 use crate::chip::{Chip, Event, MemoryCommand, WriteMode};
@@ -264,7 +264,7 @@ fn protected(mode: WriteMode) -> String {
     .concat()
 }
 
-/// What the program `plug_rows` writes.
+/// All rows, a line each.
 pub fn text() -> String {
     [
         reads(),

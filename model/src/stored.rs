@@ -1,5 +1,5 @@
-//! What is stored in the repository and made by this model: the samples, and
-//! what each Rattle program is run on and must write.
+//! What is stored in the repository and made by this model: the samples, what
+//! each Rattle program is run on and must write, and the rows of the test tray.
 
 use std::path::{Path, PathBuf};
 
@@ -9,7 +9,7 @@ use crate::{demo, lookup, lookup_cases, rows, samples, sheet};
 pub fn files() -> Vec<(PathBuf, Vec<u8>)> {
     let top = Path::new(env!("CARGO_MANIFEST_DIR")).join("..");
     let mut files = vec![
-        ("crates/program_rows/stdout".into(), rows::text().into_bytes()),
+        ("bindings/tests/rows.txt".into(), rows::text().into_bytes()),
         ("crates/program_list_cases/stdin".into(), samples::cases_input()),
         (
             "crates/program_list_cases/stdout".into(),
