@@ -24,9 +24,9 @@ use Rattle.master_runs.specs.Calls.{areReplies, asMany}
 use Rattle.master_runs.specs.Number.{numberFedJudged}
 use Rattle.master_runs.specs.Page.{pageFedJudged}
 use Rattle.master_runs.specs.Publisher.{publisherFedJudged}
-use Rattle.plug_packing.specs.Number.{numberReadOf, numberJudged}
-use Rattle.plug_packing.specs.Page.{pageReadOf, pageJudged}
-use Rattle.plug_packing.specs.Publisher.{publisherOf, publisherJudged}
+use Rattle.plug_master_packing.specs.Number.{numberReadOf, numberJudged}
+use Rattle.plug_master_packing.specs.Page.{pageReadOf, pageJudged}
+use Rattle.plug_master_packing.specs.Publisher.{publisherOf, publisherJudged}
 use Rattle.master_page_laws.proofs.Ds2505.{page-read}
 use Rattle.master_call_laws.proofs.Laws.{call-laws}
 use Rattle.plug_capi.specs.Answers.{isAnswer, isNumberBuffer, eightOf}

@@ -9,7 +9,7 @@ use Rattle.chip_memory.specs.Layout.{isImage}
 use Rattle.chip_entries.specs.declared.event.State.{State}
 use Rattle.chip_entries.specs.Event.{powerUp}
 use Rattle.chip_entries.specs.Run.{areEvents, runAnswer, ranChip, ranReplies}
-use Rattle.plug_packing.specs.Chip.{chipStateOf, chipJudged, chipPacked, chipBuffer}
+use Rattle.plug_chip_packing.specs.Chip.{chipStateOf, chipJudged, chipPacked, chipBuffer}
 use Rattle.plug_capi.specs.Answers.{isNumberBuffer, eightOf}
 
 -- ---- a whole run from power-up

@@ -7,7 +7,7 @@ use Rattle.base_types.specs.Outcome.{Outcome, Done, unlessRefused, following, i
 use Rattle.bus_scripts.specs.Next.{Next}
 use Rattle.master_number.specs.NumberRead.{numberBegun, numberInRange, numberAnswer, numberState}
 use Rattle.master_runs.specs.Calls.{areReplies, asMany, lastTold, eventBytes}
-use Rattle.plug_packing.specs.Number.{numberReadOf, numberJudged, numberBuffer}
+use Rattle.plug_master_packing.specs.Number.{numberReadOf, numberJudged, numberBuffer}
 use Rattle.plug_capi.specs.Answers.{isAnswer, nextAnswered}
 use Rattle.plug_capi.specs.Calls.{callJudged}
 

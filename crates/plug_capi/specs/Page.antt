@@ -10,7 +10,7 @@ use Rattle.bus_scripts.specs.Next.{Next}
 use Rattle.master_page.specs.PageRead.{pageInRange, startAnswer, startState, readAnswer, readState, readBuffer}
 use Rattle.master_page.specs.Held.{pageTold, pageCalled, pageStarted}
 use Rattle.master_runs.specs.Calls.{areReplies, asMany, fedCalls, lastTold, eventBytes}
-use Rattle.plug_packing.specs.Page.{pageReadOf, pageJudged, pageBuffer}
+use Rattle.plug_master_packing.specs.Page.{pageReadOf, pageJudged, pageBuffer}
 use Rattle.plug_capi.specs.Answers.{isAnswer, nextAnswered}
 use Rattle.plug_capi.specs.Calls.{callJudged, whether}
 

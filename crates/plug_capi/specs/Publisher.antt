@@ -11,7 +11,7 @@ use Rattle.bus_scripts.specs.Next.{Next}
 use Rattle.master_publisher.specs.Start.{publisherAnswer, publisherState}
 use Rattle.master_publisher.specs.Call.{publisherInRange, callAnswer, callState}
 use Rattle.master_runs.specs.Calls.{areReplies, asMany, lastTold, eventBytes}
-use Rattle.plug_packing.specs.Publisher.{publisherOf, publisherJudged, publisherBuffer}
+use Rattle.plug_master_packing.specs.Publisher.{publisherOf, publisherJudged, publisherBuffer}
 use Rattle.plug_capi.specs.Answers.{isAnswer, answered, nextAnswered}
 use Rattle.plug_capi.specs.Calls.{callJudged, whether}
 

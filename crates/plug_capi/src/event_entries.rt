@@ -2,7 +2,7 @@
 ghost use mathlib.Core.Path.{_≡_};
 ghost use Rattle.base_types.specs.Outcome.{judgedOutcome, unlessRefused};
 ghost use Rattle.chip_entries.specs.Run.{runAnswer, ranChip, ranReplies};
-ghost use Rattle.plug_packing.specs.Chip.{chipBuffer};
+ghost use Rattle.plug_chip_packing.specs.Chip.{chipBuffer};
 ghost use Rattle.plug_capi.specs.Answers.{codeIn};
 ghost use Rattle.plug_capi.specs.Chip.{wholeAnswer, wholeImage, wholeReplies, powerAnswer, powerState, chipLeft, eventsAnswer, eventsState, eventsImage, eventsReplies};
 use crate::answer;
@@ -12,7 +12,7 @@ use base_types::refusal::Judged;
 use chip_entries::event;
 use chip_entries::event::State;
 use chip_memory::layout;
-use plug_packing::chip_state;
+use plug_chip_packing::chip_state;
 
 // The events, a byte each, on a chip with this number from power-up on; a byte for each reply. Refused: 1, 2, 10.
 #[no_mangle]

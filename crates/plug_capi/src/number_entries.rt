@@ -2,7 +2,7 @@
 ghost use mathlib.Core.Path.{_≡_};
 ghost use Rattle.master_number.specs.NumberRead.{numberBegun, answerOutcome, numberAnswer, numberState};
 ghost use Rattle.master_runs.specs.Number.{numberFedOutcome, numberFedEvents};
-ghost use Rattle.plug_packing.specs.Number.{numberPacked, numberBuffer};
+ghost use Rattle.plug_master_packing.specs.Number.{numberPacked, numberBuffer};
 ghost use Rattle.plug_capi.specs.Answers.{codeIn, nextAnswered};
 ghost use Rattle.plug_capi.specs.Number.{numberRunOutcome, numberRunEvents, numberRunTold, numberCallOutcome, numberCallState, numberCallTold};
 use crate::answer;
@@ -10,7 +10,7 @@ use crate::calls;
 use base_types::refusal::Judged;
 use master_number::Answer;
 use master_number::NumberRead;
-use plug_packing::number_state;
+use plug_master_packing::number_state;
 
 // What a call told, and its code.
 fn tell(told: Answer, bytes: [u8; 8], answer: &mut [u8]) -> u32

@@ -2,7 +2,7 @@
 ghost use mathlib.Core.Path.{_≡_};
 ghost use Rattle.base_types.specs.Outcome.{judgedOutcome};
 ghost use Rattle.master_page.specs.PageRead.{readOutcome, startOutcome, readAnswer, readState, readBuffer};
-ghost use Rattle.plug_packing.specs.Page.{pageBuffer};
+ghost use Rattle.plug_master_packing.specs.Page.{pageBuffer};
 ghost use Rattle.master_page.specs.Held.{pageHeld};
 ghost use Rattle.master_runs.specs.Page.{pageFedOutcome, pageFed, pageFedEvents};
 ghost use Rattle.plug_capi.specs.Calls.{whether};
@@ -17,7 +17,7 @@ use chip_memory::layout;
 use master_page::Answer;
 use master_page::PageRead;
 use master_page::StartAnswer;
-use plug_packing::page_state;
+use plug_master_packing::page_state;
 
 // What a call told, and its code.
 fn tell(told: Answer, answer: &mut [u8]) -> u32

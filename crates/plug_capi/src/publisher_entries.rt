@@ -3,7 +3,7 @@ ghost use mathlib.Core.Path.{_≡_};
 ghost use Rattle.base_types.specs.Outcome.{judgedOutcome};
 ghost use Rattle.master_publisher.specs.Start.{startOutcome};
 ghost use Rattle.master_publisher.specs.Call.{turnOutcome, callAnswer, callState};
-ghost use Rattle.plug_packing.specs.Publisher.{publisherBuffer};
+ghost use Rattle.plug_master_packing.specs.Publisher.{publisherBuffer};
 ghost use Rattle.master_runs.specs.Publisher.{publisherFedOutcome, publisherFedEvents};
 ghost use Rattle.plug_capi.specs.Calls.{whether};
 ghost use Rattle.master_plan.specs.Kind.{ordinary, quick};
@@ -21,7 +21,7 @@ use master_plan::kind::UpdateKind;
 use master_publisher::Answer;
 use master_publisher::Publisher;
 use master_publisher::StartAnswer;
-use plug_packing::publisher_state;
+use plug_master_packing::publisher_state;
 
 // What a call told, and its code.
 fn tell(told: Answer, answer: &mut [u8]) -> u32

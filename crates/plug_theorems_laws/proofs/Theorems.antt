@@ -30,10 +30,10 @@ use Rattle.plug_lookup_laws.proofs.Outcome.{answer-laws}
 use Rattle.plug_lookup_laws.proofs.Superseding.{superseding}
 use Rattle.plug_sheet.proofs.Sheets.{sheet-laws}
 use Rattle.plug_sheet.proofs.Texts.{list-laws, decimal-laws}
-use Rattle.plug_packing.proofs.Chip.{chip-packing}
-use Rattle.plug_packing.proofs.Number.{number-packing}
-use Rattle.plug_packing.proofs.Page.{page-packing}
-use Rattle.plug_packing.proofs.Publisher.{publisher-packing}
+use Rattle.plug_chip_packing.proofs.Chip.{chip-packing}
+use Rattle.plug_master_packing.proofs.Number.{number-packing}
+use Rattle.plug_master_packing.proofs.Page.{page-packing}
+use Rattle.plug_master_packing.proofs.Publisher.{publisher-packing}
 use Rattle.plug_capi.proofs.Laws.{run-laws}
 use Rattle.plug_theorems_laws.specs.Theorems.{PageCount, Theorems, Figures, Proved}
 

@@ -31,10 +31,10 @@ use Rattle.plug_lookup_laws.specs.Superseding.{Superseding}
 use Rattle.plug_sheet.specs.Stored.{SheetLaws}
 use Rattle.plug_sheet.specs.List.{ListLaws}
 use Rattle.plug_sheet.specs.Text.{DecimalLaws}
-use Rattle.plug_packing.specs.Chip.{ChipPacking}
-use Rattle.plug_packing.specs.Number.{NumberPacking}
-use Rattle.plug_packing.specs.Page.{PagePacking}
-use Rattle.plug_packing.specs.Publisher.{PublisherPacking}
+use Rattle.plug_chip_packing.specs.Chip.{ChipPacking}
+use Rattle.plug_master_packing.specs.Number.{NumberPacking}
+use Rattle.plug_master_packing.specs.Page.{PagePacking}
+use Rattle.plug_master_packing.specs.Publisher.{PublisherPacking}
 use Rattle.plug_capi.specs.Laws.{RunLaws}
 
 -- a page count that the theorems hold of: the DS2505's 64 is one

@@ -3,7 +3,7 @@ use Rattle.plug_capi.specs.Answers.{codeIn, nextAnswered}
 use Rattle.base_types.specs.Outcome.{Outcome}
 use Rattle.bus_scripts.specs.Next.{Next}
 use Rattle.master_number.specs.declared.NumberRead.{NumberRead}
-use Rattle.plug_packing.specs.Number.{numberBuffer}
+use Rattle.plug_master_packing.specs.Number.{numberBuffer}
 use borrow.Author.Needs.{needs}
 use Rattle.plug_capi.proofs.number_entries.call_state.Statement.{statement}
 use Rattle.plug_capi.proofs.number_entries.call_state.Tie as tie

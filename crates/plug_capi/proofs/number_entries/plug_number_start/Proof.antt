@@ -1,4 +1,4 @@
-use Rattle.plug_packing.specs.Number.{numberBuffer, numberPacked}
+use Rattle.plug_master_packing.specs.Number.{numberBuffer, numberPacked}
 use borrow.Author.Needs.{needs}
 use Rattle.plug_capi.proofs.number_entries.plug_number_start.Statement.{statement}
 use Rattle.plug_capi.proofs.number_entries.plug_number_start.Tie as tie

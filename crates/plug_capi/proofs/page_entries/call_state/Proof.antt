@@ -1,6 +1,6 @@
 use mathlib.Core.Path.{_∙_}
 use Rattle.master_page.specs.PageRead.{readAnswer, readBuffer, readState}
-use Rattle.plug_packing.specs.Page.{pageBuffer}
+use Rattle.plug_master_packing.specs.Page.{pageBuffer}
 use Rattle.plug_capi.specs.Answers.{nextAnswered}
 use borrow.Author.Needs.{needs}
 use Rattle.plug_capi.proofs.page_entries.call_state.Statement.{statement}

@@ -4,8 +4,8 @@ use Rattle.base_types.specs.Outcome.{Outcome, Done}
 use Rattle.chip_memory.specs.Layout.{isPage}
 use Rattle.master_page.specs.declared.PageRead.{PageRead}
 use Rattle.master_page.specs.PageRead.{startState}
-use Rattle.plug_packing.specs.Bytes.{bufferOutcome}
-use Rattle.plug_packing.specs.Page.{pagePacked, pageBuffer}
+use Rattle.plug_fields.specs.Fields.{bufferOutcome}
+use Rattle.plug_master_packing.specs.Page.{pagePacked, pageBuffer}
 use Rattle.plug_capi.specs.Answers.{codeIn}
 use Rattle.plug_capi.specs.Page.{pageStartState, pageStartJudged}
 use Rattle.plug_capi.proofs.Pages.{page-same, state-same}

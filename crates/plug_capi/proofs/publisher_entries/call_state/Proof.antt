@@ -1,7 +1,7 @@
 use mathlib.Core.Path.{_∙_}
 use Rattle.master_publisher.specs.Call.{callAnswer, callState}
 use Rattle.master_plan.specs.Plan.{planOf}
-use Rattle.plug_packing.specs.Publisher.{publisherBuffer}
+use Rattle.plug_master_packing.specs.Publisher.{publisherBuffer}
 use Rattle.plug_capi.specs.Answers.{nextAnswered}
 use borrow.Author.Needs.{needs}
 use Rattle.plug_capi.proofs.publisher_entries.call_state.Statement.{statement}

@@ -8,7 +8,7 @@ use Rattle.base_types.specs.Outcome.{Outcome, Done, following, inOrder, judgedO
 use Rattle.master_publisher.specs.declared.Choice.{Choice}
 use Rattle.master_publisher.specs.declared.Publisher.{Publisher}
 use Rattle.master_publisher.specs.Start.{choiceState, choiceOutcome, publisherAnswer, publisherState}
-use Rattle.plug_packing.specs.Publisher.{publisherBuffer}
+use Rattle.plug_master_packing.specs.Publisher.{publisherBuffer}
 use Rattle.plug_capi.specs.Calls.{answerJudged, whether}
 use Rattle.plug_capi.specs.Publisher.{publisherStartState, publisherStartTold}
 use Rattle.plug_capi.proofs.Judged.{start-judged}

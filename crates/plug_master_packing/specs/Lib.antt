@@ -1,0 +1,4 @@
+pub mod Number
+pub mod Page
+pub mod Publisher
+pub mod Code
