@@ -3,8 +3,6 @@
 ghost use mathlib.Core.Path.{_≡_};
 ghost use Rattle.base_crc.specs.Crc.{crc8From, crc16From};
 
-mod answer;
-mod calls;
 pub mod event_entries;
 pub mod image_entries;
 pub mod lookup_entries;
@@ -12,6 +10,7 @@ pub mod number_entries;
 pub mod page_entries;
 pub mod publisher_entries;
 pub mod sheet_entries;
+pub mod update_entries;
 
 // The CRC-8 register after so many more bytes; a cleared one is 0.
 #[no_mangle]

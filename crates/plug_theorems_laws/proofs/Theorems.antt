@@ -34,7 +34,7 @@ use Rattle.plug_chip_packing.proofs.Chip.{chip-packing}
 use Rattle.plug_master_packing.proofs.Number.{number-packing}
 use Rattle.plug_master_packing.proofs.Page.{page-packing}
 use Rattle.plug_master_packing.proofs.Publisher.{publisher-packing}
-use Rattle.plug_capi.proofs.Laws.{run-laws}
+use Rattle.plug_call_laws.proofs.Laws.{run-laws}
 use Rattle.plug_theorems_laws.specs.Theorems.{PageCount, Theorems, Figures, Proved}
 
 theorems : (n : ℕ) → PageCount n → Theorems n

@@ -35,7 +35,7 @@ use Rattle.plug_chip_packing.specs.Chip.{ChipPacking}
 use Rattle.plug_master_packing.specs.Number.{NumberPacking}
 use Rattle.plug_master_packing.specs.Page.{PagePacking}
 use Rattle.plug_master_packing.specs.Publisher.{PublisherPacking}
-use Rattle.plug_capi.specs.Laws.{RunLaws}
+use Rattle.plug_call_laws.specs.Laws.{RunLaws}
 
 -- a page count that the theorems hold of: the DS2505's 64 is one
 pub record PageCount (n : ℕ) : Type 0 where

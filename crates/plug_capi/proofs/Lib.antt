@@ -1,5 +1,0 @@
-pub mod Eight
-pub mod Judged
-pub mod Laws
-pub mod Pages
-pub mod Sheets
