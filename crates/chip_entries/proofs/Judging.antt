@@ -3,7 +3,6 @@ use Prim.Native.Nat.{ℕ}
 use mathlib.Core.Path.{_≡_, refl, sym, ap, _∙_}
 use mathlib.Core.Bool.{Bool, true, false, _&&_}
 use mathlib.Core.List.{List}
-use native.Mathlib.Omega.{arith}
 use Rattle.base_types.specs.Outcome.{Outcome, refused, accepted, judge, Done, done, following, inOrder}
 use Rattle.bus_events.specs.declared.Event.{Event}
 use Rattle.chip_memory.specs.Layout.{isImage, isPage}
@@ -23,21 +22,6 @@ on-page n img p answer e = rw e (go (isImage n img) (isPage n p))
     go false t = refl
 
 -- ---- the judgement of a chip
-
-first-right : (a b : Bool) → (a && b) ≡ true → a ≡ true
-first-right true b e = refl
-first-right false b e = e
-
--- what is accepted is right in each part
-pub all-right : (image ranges more lengths : Bool) → accepted done ≡ inOrder image (ranges && more) lengths
-    → (image ≡ true) × ((ranges ≡ true) × (lengths ≡ true))
-all-right image ranges more lengths e = go image (ranges && more) lengths refl e
-  where
-    go : (a b c : Bool) → (ranges && more) ≡ b → accepted done ≡ inOrder a b c → (a ≡ true) × ((ranges ≡ true) × (c ≡ true))
-    go true true true h e = (refl, (first-right ranges more h, refl))
-    go true true false h e = absurd (let y : _≡_ {A = ℕ} 0 1 = cc in omega arith)
-    go true false c h e = absurd (let y : _≡_ {A = ℕ} 0 1 = cc in omega arith)
-    go false b c h e = absurd (let y : _≡_ {A = ℕ} 0 1 = cc in omega arith)
 
 module _ (n : ℕ) (s : State) (e : Event) (img : List ℕ) where
   abbrev judged : Outcome Done

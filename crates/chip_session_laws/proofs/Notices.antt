@@ -8,6 +8,7 @@ use native.Mathlib.Omega.{arith}
 use lib.ListN.{length, length-append, length-replicate, take, drop}
 use lib.Seq.{take-at, drop-at}
 use borrow.Author.Tests.{lt-ltb}
+use Rattle.base_types.proofs.Words.{bits-length, bytes-length}
 use Rattle.base_types.specs.Outcome.{accepted}
 use Rattle.base_types.specs.Bits.{bitsOf, bitsOfBytes}
 use Rattle.base_types.specs.declared.address.Space.{Space}
@@ -29,7 +30,7 @@ use Rattle.chip_function_laws.proofs.Addresses.{address-laws}
 use Rattle.chip_entries.specs.Run.{Chip, answers, lineOf}
 use Rattle.chip_session_laws.specs.Session.{Ready, Selection, thenOnes}
 use Rattle.chip_session_laws.specs.Laws.{Draws, startingAt, HeardWithCrc, WriteFits, NoticeLaws}
-use Rattle.chip_session_laws.proofs.Slots.{bits-length, bits-of-bytes-length, lines-read}
+use Rattle.chip_session_laws.proofs.Slots.{lines-read}
 use Rattle.chip_session_laws.proofs.Sessions.{read-sessions}
 use Rattle.chip_session_laws.proofs.Writes.{byte-arms}
 
@@ -85,7 +86,7 @@ module _ (n : ℕ) (low : n ≤ 256) where
       let m = 8 * length first + 16 in
       let x = bitsOfBytes first ++ crcOf (header command k ++ first) in
       let size : length (bitsOfBytes first ++ crcOf (header command k ++ first)) ≡ 8 * length first + 16 =
-      length-append (bitsOfBytes first) (crcOf (header command k ++ first)) ∙ ap₂ _+_ (bits-of-bytes-length first) (bits-length 16 _) in
+      length-append (bitsOfBytes first) (crcOf (header command k ++ first)) ∙ ap₂ _+_ (bytes-length first) (bits-length 16 _) in
       let line : lines (ones m) (thenOnes stream (length (ones m))) ≡ x =
       ap₂ (λ (s : List Bool) (l : ℕ). lines (ones m) (thenOnes s l)) begins (length-replicate m _)
       ∙ ap (lines (ones m)) (first-bits x rest m size) ∙ lines-read m x size in
@@ -105,11 +106,11 @@ module _ (n : ℕ) (low : n ≤ 256) where
       ∙ ap (λ (l : ℕ). answers n c (reset ∷ slots (ms ++ (sent ++ ones (8 * l + 16))))) same ∙ fits) in
       let block : x ≡ y = append-cancel-left sent x y (append-cancel-left ls _ _ (tail-eq-of-cons-eq heard)) in
       let m = 8 * length bytes in
-      let front : length (bitsOfBytes first) ≡ 8 * length bytes = bits-of-bytes-length first ∙ ap (λ (l : ℕ). 8 * l) same in
+      let front : length (bitsOfBytes first) ≡ 8 * length bytes = bytes-length first ∙ ap (λ (l : ℕ). 8 * l) same in
       let bits : bitsOfBytes first ≡ bitsOfBytes bytes =
-      sym (take-at (bitsOfBytes first) _ m front) ∙ ap (take m) block ∙ take-at (bitsOfBytes bytes) _ m (bits-of-bytes-length bytes) in
+      sym (take-at (bitsOfBytes first) _ m front) ∙ ap (take m) block ∙ take-at (bitsOfBytes bytes) _ m (bytes-length bytes) in
       let crcs : crcOf (header command k ++ first) ≡ crcOf (header command a ++ bytes) =
-      sym (drop-at (bitsOfBytes first) _ m front) ∙ ap (drop m) block ∙ drop-at (bitsOfBytes bytes) _ m (bits-of-bytes-length bytes) in
+      sym (drop-at (bitsOfBytes first) _ m front) ∙ ap (drop m) block ∙ drop-at (bitsOfBytes bytes) _ m (bytes-length bytes) in
       not-dropped command a bytes la (sym (crc-by-bits (header command k) first bytes bits) ∙ crcs)
 
   -- ---- the streams, each with the bytes before its first CRC

@@ -7,6 +7,7 @@ use native.Mathlib.Omega.{arith}
 use lib.Dec.{eqb, lit<}
 use lib.ListN.{length, length-append}
 use borrow.Author.Tests.{le-ltb, ltb-true}
+use Rattle.base_types.proofs.Words.{bits-length}
 use Rattle.base_types.specs.Bits.{bitsOf, bitsOfBytes}
 use Rattle.base_types.specs.declared.address.Space.{Space}
 use Rattle.base_types.specs.declared.address.Space.the-variants.{Data, Status}
@@ -41,7 +42,7 @@ use Rattle.chip_entries.specs.Run.{Chip}
 use Rattle.chip_session_laws.specs.Session.{Ready, _at_, Reaches, Selection, skip, read, matched, searched, thenOnes}
 use Rattle.chip_session_laws.specs.Laws.{RomSessionLaws, Draws, ReadSessionLaws, Silenced, SilenceLaws}
 use Rattle.chip_session_laws.proofs.Runs.{_then_, further, event}
-use Rattle.chip_session_laws.proofs.Slots.{lines-ones, bits-length, ready, over-rom, draws-stream, byte-in}
+use Rattle.chip_session_laws.proofs.Slots.{lines-ones, ready, over-rom, draws-stream, byte-in}
 
 module _ (n : ℕ) (whole : n % 8 ≡ 0) where
   pub resets : (c : Chip) → Ready n c → Reaches n c (reset ∷ []) (false ∷ []) (c at awaitingRom)

@@ -46,16 +46,6 @@ lines-read zero (b ∷ bs) e = absurd (omega arith)
 lines-read (suc k) [] e = refl
 lines-read (suc k) (b ∷ bs) e = ap (λ l. b ∷ l) (lines-read k bs (omega arith))
 
-pub bits-length : (k x : ℕ) → length (bitsOf k x) ≡ k
-unfolding bitsOf
-bits-length zero x = refl
-bits-length (suc k) x = ap suc (bits-length k (x / 2))
-
-pub bits-of-bytes-length : (bytes : List ℕ) → length (bitsOfBytes bytes) ≡ 8 * length bytes
-unfolding bitsOfBytes
-bits-of-bytes-length [] = refl
-bits-of-bytes-length (b ∷ bs) = omega (arith, length-append (bitsOf 8 b) (bitsOfBytes bs), bits-length 8 b, bits-of-bytes-length bs)
-
 module _ (n : ℕ) (whole : n % 8 ≡ 0) where
   -- where a run leads, the chip is within its ranges
   ready-run : (es : List Event) (c : Chip) → Ready n c → Ready n (run n c es)

@@ -7,6 +7,7 @@ use native.Mathlib.Omega.{arith}
 use lib.Dec.{ltb}
 use lib.ListN.{length, getD}
 use borrow.Author.Tests.{lt-ltb}
+use Rattle.base_types.proofs.Words.{bits-length}
 use Rattle.base_types.specs.Bits.{bitsOf, bitsOfBytes}
 use Rattle.base_types.specs.declared.address.Space.{Space}
 use Rattle.base_types.specs.declared.address.Space.the-variants.{Data, Status}
@@ -41,7 +42,7 @@ use Rattle.chip_session_laws.specs.Session.{Ready, _at_, _holding_, Reac
 use Rattle.chip_session_laws.specs.Session.{cycleEvents, cycleBytes, cycleLines, byteOf, beforeByte}
 use Rattle.chip_session_laws.specs.Laws.{isArmed, WriteLaws}
 use Rattle.chip_session_laws.proofs.Runs.{run-append, stays, _then_, event}
-use Rattle.chip_session_laws.proofs.Slots.{lines-read, bits-length, ready, over-memory, byte-in, bits-unarmed}
+use Rattle.chip_session_laws.proofs.Slots.{lines-read, ready, over-memory, byte-in, bits-unarmed}
 use Rattle.chip_session_laws.proofs.Places.{byte-is, stays-read}
 use Rattle.chip_session_laws.proofs.Sessions.{write-begins, write-byte, up-to-address}
 

@@ -13,6 +13,7 @@ use Rattle.base_types.specs.Refusal.{numberOf, valuesOf}
 use Rattle.base_types.specs.declared.address.Target.{Target}
 use Rattle.base_types.specs.declared.write_mode.WriteMode.{WriteMode}
 use Rattle.base_types.specs.declared.write_mode.WriteMode.the-variants.{Ordinary, Quick}
+use Rattle.base_types.proofs.Tests.{and-true, and-assoc}
 use Rattle.base_types.proofs.Values.{one-odd}
 use Rattle.base_crc.specs.Crc.{crcBytes, crc16Byte, crc16Word}
 use Rattle.bus_events.specs.Events.{slot, readSlot, pulse}
@@ -82,14 +83,6 @@ bit-by-bit r w v = go r (odd v) (one-odd v)
     go false true h = sym (ne-eqb (0 + 2 * w) v (λ e. omega arith))
     go false false h = both-ways w (v / 2) (0 + 2 * w) v (λ e. omega arith) (λ e. omega arith)
 
-and-true : (x : Bool) → x ≡ (x && true)
-and-true true = refl
-and-true false = refl
-
-and-assoc : (x y z : Bool) → ((x && y) && z) ≡ (x && (y && z))
-and-assoc true y z = refl
-and-assoc false y z = refl
-
 module _ (last : Bool → Wanted) (stop : PublisherStop) (judged : (b good r : Bool) → judgedOf (last b) good r ≡ judgedLast (good && same b r) stop) (on : Bool → Script) where
   -- what follows a number that was read
   abbrev judgedBy : Bool → Script
@@ -107,7 +100,7 @@ module _ (last : Bool → Wanted) (stop : PublisherStop) (judged : (b good r : B
       ap (sends readSlot) (fun-ext (λ r.
       ap (λ (j : Judged). judgedScript j on) (judged (odd v) good r)
       ∙ last-script (good && same (odd v) r)
-      ∙ ap (λ (b : Bool). judgedBy (good && b)) (and-true (same (odd v) r) ∙ ap (λ (b : Bool). same (odd v) r && b) (sym h) ∙ bit-by-bit r 0 v)))
+      ∙ ap (λ (b : Bool). judgedBy (good && b)) (sym (and-true (same (odd v) r)) ∙ ap (λ (b : Bool). same (odd v) r && b) (sym h) ∙ bit-by-bit r 0 v)))
   reads (suc k) v good lt =
       ap (sends readSlot) (fun-ext (λ r.
       reads k (v / 2) (good && same (odd v) r) (omega (arith, pow-succ' 2 (suc k)))

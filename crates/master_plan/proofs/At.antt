@@ -66,10 +66,10 @@ freely-append : (xs ys : List Bool) → freely (slots (xs ++ ys)) ≡ freely (sl
 freely-append [] ys = refl
 freely-append (x ∷ xs) ys = ap (λ (l : List Step). step (slot x) Anything ∷ l) (freely-append xs ys)
 
-bits-length : (k v : ℕ) → length (freely (slots (bitsOf k v))) ≡ k
+free-length : (k v : ℕ) → length (freely (slots (bitsOf k v))) ≡ k
 unfolding bitsOf
-bits-length zero v = refl
-bits-length (suc k) v = ap suc (bits-length k (v / 2))
+free-length zero v = refl
+free-length (suc k) v = ap suc (free-length k (v / 2))
 
 -- bit i modulo 8 of byte i divided by 8
 send-at : (bytes : List ℕ) (i : ℕ) → i < 8 * length bytes → sendAt (getD bytes (i / 8) 0) i ≡ at (sendSteps bytes) i
@@ -83,11 +83,11 @@ send-at (b ∷ bs) i lt =
     go ih (yes y) =
         let q : i / 8 ≡ 0 = omega arith in
         let r : i % 8 ≡ i = omega arith in
-        rw (q, r) (bits-at 8 b i y) ∙ sym (at-left (freely (slots (bitsOf 8 b))) _ 8 i (bits-length 8 b) y)
+        rw (q, r) (bits-at 8 b i y) ∙ sym (at-left (freely (slots (bitsOf 8 b))) _ 8 i (free-length 8 b) y)
     go ih (no z) =
         let q : i / 8 ≡ suc ((i - 8) / 8) = omega arith in
         let r : i % 8 ≡ (i - 8) % 8 = omega arith in
-        rw (q, r) (ih (omega arith)) ∙ sym (at-right (freely (slots (bitsOf 8 b))) _ 8 i (bits-length 8 b) (omega arith))
+        rw (q, r) (ih (omega arith)) ∙ sym (at-right (freely (slots (bitsOf 8 b))) _ 8 i (free-length 8 b) (omega arith))
 
 read-early : (complete : Bool → Wanted) (n v i : ℕ) → i < n → at (readSteps complete (suc n) v) i ≡ step readSlot (Bit (bitAt v i))
 unfolding readSteps

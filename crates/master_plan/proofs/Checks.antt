@@ -35,15 +35,15 @@ any-append (x ∷ xs) ys = go (judgesCrc (x .wanted)) (any-append xs ys)
     go true ih = refl
     go false ih = ih
 
-neither : (a b : Bool) → cond a true b ≡ false → (a ≡ false) × (b ≡ false)
-neither true b h = (h, cc)
-neither false b h = (refl, h)
+either-false : (a b : Bool) → cond a true b ≡ false → (a ≡ false) × (b ≡ false)
+either-false true b h = (h, cc)
+either-false false b h = (refl, h)
 
 -- past its end a list gives resetStep
 none-at : (ss : List Step) (k : ℕ) → anyCrc ss ≡ false → judgesCrc (getD ss k resetStep .wanted) ≡ false
 none-at [] k h = refl
-none-at (s ∷ ss) zero h = neither (judgesCrc (s .wanted)) (anyCrc ss) h .0
-none-at (s ∷ ss) (suc k) h = none-at ss k (neither (judgesCrc (s .wanted)) (anyCrc ss) h .1)
+none-at (s ∷ ss) zero h = either-false (judgesCrc (s .wanted)) (anyCrc ss) h .0
+none-at (s ∷ ss) (suc k) h = none-at ss k (either-false (judgesCrc (s .wanted)) (anyCrc ss) h .1)
 
 none-free : (es : List Event) → anyCrc (freely es) ≡ false
 none-free [] = refl

@@ -57,10 +57,10 @@ pub byte-length : (mode : WriteMode) (register old byte : ℕ) → length (byteS
 unfolding byteSteps backSteps
 byte-length mode register old byte = simp (length-append, send-length, crc-length, read-length) (omega arith)
 
-pub bytes-length : (mode : WriteMode) (bytes : List ℕ) (a register old : ℕ) → length (bytesSteps mode a register old bytes) ≡ byteCount mode * length bytes
+pub written-length : (mode : WriteMode) (bytes : List ℕ) (a register old : ℕ) → length (bytesSteps mode a register old bytes) ≡ byteCount mode * length bytes
 unfolding bytesSteps
-bytes-length mode [] a register old = omega arith
-bytes-length mode (byte ∷ bytes) a register old = simp (length-append, byte-length, bytes-length mode bytes) (omega arith)
+written-length mode [] a register old = omega arith
+written-length mode (byte ∷ bytes) a register old = simp (length-append, byte-length, written-length mode bytes) (omega arith)
 
 module _ (kind : UpdateKind) where
   pub head-length : (target : Target) → length (headSteps kind target) ≡ headCount kind
@@ -74,7 +74,7 @@ module _ (kind : UpdateKind) where
 
   pub write-length : (target : Target) (old : ℕ) (bytes : List ℕ) → length (writeSteps kind target old bytes) ≡ writeCount kind (length bytes)
   unfolding writeSteps
-  write-length target old bytes = simp (length-append, head-length, bytes-length)
+  write-length target old bytes = simp (length-append, head-length, written-length)
 
   pub plan-length : (l t used : ℕ) (new : List ℕ) → length new ≡ 32 → length (planOf kind l t used new) ≡ totalOf kind
   unfolding planOf

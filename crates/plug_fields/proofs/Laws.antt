@@ -10,6 +10,7 @@ use lib.ListN.{length, getD, set, take, drop, replicate, length-append, length-r
 use lib.Seq.{drop-cons, take-all, drop-at}
 use borrow.Author.Tests.{eq-eqb, ne-eqb, eqb-true, le-ltb}
 use Rattle.base_types.specs.Bits.{one}
+use Rattle.base_types.proofs.Tests.{and-left, and-right, and-true}
 use Rattle.base_types.specs.declared.write_mode.WriteMode.{WriteMode}
 use Rattle.base_types.specs.declared.write_mode.WriteMode.the-variants.{Ordinary, Quick}
 use Rattle.chip_memory.specs.Page.{copied}
@@ -238,18 +239,6 @@ whole-rest n f rest long e =
 whole-same : (n : ℕ) (f b : List ℕ) → length f ≡ 16 → length b ≡ 16 + n → same 0 (f ++ restAt n b) b ≡ same 0 f b
 whole-same n f b long e =
     same-append 0 f (restAt n b) b ∙ rw (rest-all n b e, long, same-tail 16 b) (and-true (same 0 f b))
-  where
-    and-true : (t : Bool) → (t && true) ≡ t
-    and-true true = refl
-    and-true false = refl
-
-and-left : (p q : Bool) → (p && q) ≡ true → p ≡ true
-and-left true q e = refl
-and-left false q e = e
-
-and-right : (p q : Bool) → (p && q) ≡ true → q ≡ true
-and-right true q e = e
-and-right false q e = absurd (let z : _≡_ {A = ℕ} 0 1 = cc in omega arith)
 
 -- what the laws are about: the bytes of a state, and the state of bytes
 abbrev pub bytesBy : {S : Type 0} → ℕ → (S → List ℕ) → (S → List ℕ) → (S → List ℕ) → S → List ℕ

@@ -7,6 +7,7 @@ use native.Mathlib.Omega.{arith}
 use lib.Dec.{ltb}
 use lib.ListN.{length, getD, replicate}
 use Rattle.base_types.specs.Refusal.{numberOf}
+use Rattle.base_types.proofs.Tests.{and-assoc}
 use Rattle.base_types.specs.declared.write_mode.WriteMode.{WriteMode}
 use Rattle.master_plan.specs.declared.kind.Selection.{Selection}
 use Rattle.master_plan.specs.declared.kind.Selection.the-variants.{SkipRom}
@@ -70,10 +71,6 @@ publisher = laws _ _ _ _ _ _ _ (omega arith) (λ b. refl) refl back
 pub publisher-held : (b : List ℕ) → length b ≡ 48 → publisherOf b ≡ publisherAt b (stageOf b)
 unfolding publisherOf
 publisher-held b e = publisher .held b e
-
-and-assoc : (p q r : Bool) → ((p && q) && r) ≡ (p && (q && r))
-and-assoc true q r = refl
-and-assoc false q r = refl
 
 pub publisher-judged : (b : List ℕ) → length b ≡ 48 → isPublisherState b ≡ ((stageOwn b && ltb (getD b 11 0) 2) && same 12 (replicate 4 0) b)
 unfolding isPublisherState stageOwn publisherOf publisherBytes

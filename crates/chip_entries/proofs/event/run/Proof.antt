@@ -6,7 +6,7 @@ use borrow.Author.Needs.{needs}
 use borrow.Author.Tests.{eqb-true}
 use Rattle.base_types.specs.Outcome.{judgedOutcome}
 use Rattle.chip_entries.specs.Run.{runAnswer}
-use Rattle.chip_entries.proofs.Judging.{all-right}
+use Rattle.base_types.proofs.Tests.{and-left, in-order}
 use Rattle.chip_entries.proofs.Runs.{refused-run, accepted-run}
 use Rattle.chip_entries.proofs.event.run.Statement.{statement}
 use Rattle.chip_entries.proofs.event.run.Tie as tie
@@ -16,8 +16,8 @@ unfolding runAnswer
 run-spec =
     tie.close (tie.spec
     (λ c κs. search needs) (λ c κs. search needs) (λ c. search needs) (λ c. search needs)
-    (λ c κs. let right = all-right _ _ _ _ (ap judgedOutcome (sym (c .before .before .enum-told .given .1)) ∙ c .before .before .before .before .judge .ensures) in
-    (right .0, (right .1 .0, eqb-true _ _ (right .1 .1))))
+    (λ c κs. let right = in-order _ _ _ (sym (ap judgedOutcome (sym (c .before .before .enum-told .given .1)) ∙ c .before .before .before .before .judge .ensures)) in
+    (right .0, (and-left _ _ (right .1 .0), eqb-true _ _ (right .1 .1))))
     (λ c. search needs)
     (λ c. let judged = c .before .before .before .judge .ensures in
     refused-run 64 _ _ _ _ (sym (ap judgedOutcome (sym (c .before .r .given .1)) ∙ judged ∙ simp (c .before .before .before .before .are-events .ensures))))
