@@ -2,12 +2,13 @@
 ghost use mathlib.Core.Path.{_≡_};
 ghost use mathlib.Core.Bool.{true};
 ghost use mathlib.Core.List.{[], _∷_, _++_};
+ghost use Prim.Native.Nat.{_+_, _<_};
 ghost use lib.ListN.{length};
 ghost use Rattle.base_types.specs.Outcome.{judgedOutcome};
 ghost use Rattle.chip_stage.specs.declared.stage.MemoryStage.the-variants.{Receive, Send};
 ghost use Rattle.plug_fields.specs.Fields.{word, front};
 ghost use Rattle.plug_chip_packing.specs.Chip.{writeTag, commandTag, commandOf, targetTag, targetAddress, targetBytes, targetOf, stepTag, romStepOf};
-ghost use Rattle.plug_chip_packing.specs.Chip.{romBytes, memoryBytes, chipStageBytes, incomingOf, addressedOf, outgoingOf, memoryOf, chipStageOf};
+ghost use Rattle.plug_chip_packing.specs.Chip.{romBytes, memoryBytes, chipStageBytes, wordAt, targetAt, incomingOf, addressedOf, outgoingOf, memoryOf, chipStageOf};
 ghost use Rattle.plug_chip_packing.specs.Chip.{chipAt, chipNone, chipBytes, chipStateOf, isChipState, chipJudged, chipPacked, chipBuffer};
 ghost use Rattle.plug_chip_packing.specs.Code.Chip.{incomingOwn, outgoingOwn, chipStageOwn};
 use base_types::address::DataAddress;
@@ -360,6 +361,20 @@ fn stage_own(b: &[u8]) -> bool
     }
 }
 
+fn word_at(b: &[u8], i: usize) -> u16
+    requires { ⌜ i + 1 < length (now b) ⌝ }
+    ensures { λ r. ⌜ r ≡ wordAt (now (b .entry)) i ⌝ }
+{
+    plug_fields::join(b[i], b[i + 1])
+}
+
+fn target_at(b: &[u8], i: usize) -> Target
+    requires { ⌜ i + 2 < length (now b) ⌝ }
+    ensures { λ r. ⌜ r ≡ targetAt (now (b .entry)) i ⌝ }
+{
+    target_of(b[i], word_at(b, i + 1))
+}
+
 fn incoming_of(b: &[u8]) -> Incoming
     requires { ⌜ length (now b) ≡ 24 ⌝ }
     ensures { λ r. ⌜ r ≡ incomingOf (now (b .entry)) ⌝ }
@@ -367,10 +382,7 @@ fn incoming_of(b: &[u8]) -> Incoming
     match b[5] {
         1 => Incoming::AddressLow(command_of(b[6])),
         2 => Incoming::AddressHigh(command_of(b[6]), b[7]),
-        3 => {
-            let t = target_of(b[7], plug_fields::join(b[8], b[9]));
-            Incoming::Data(plug_fields::mode_of(b[6]), t)
-        }
+        3 => Incoming::Data(plug_fields::mode_of(b[6]), target_at(b, 7)),
         _ => Incoming::Command,
     }
 }
@@ -395,15 +407,10 @@ fn outgoing_of(b: &[u8]) -> Outgoing
     requires { ⌜ length (now b) ≡ 24 ⌝ }
     ensures { λ r. ⌜ r ≡ outgoingOf (now (b .entry)) ⌝ }
 {
-    let x = b[7];
-    let y = b[8];
     match b[6] {
-        8 => Outgoing::WriteCrc(target_of(y, plug_fields::join(b[9], b[10])), x),
-        9 => {
-            let t = target_of(y, plug_fields::join(b[9], b[10]));
-            Outgoing::ReadBack(plug_fields::mode_of(x), t)
-        }
-        tag => addressed_of(tag, plug_fields::join(x, y)),
+        8 => Outgoing::WriteCrc(target_at(b, 8), b[7]),
+        9 => Outgoing::ReadBack(plug_fields::mode_of(b[7]), target_at(b, 8)),
+        tag => addressed_of(tag, word_at(b, 7)),
     }
 }
 
@@ -413,21 +420,10 @@ fn memory_of(b: &[u8]) -> MemoryStage
 {
     let x = b[1];
     let y = b[2];
-    let z = b[3];
     match b[0] {
-        3 => {
-            let crc = plug_fields::join(z, b[4]);
-            MemoryStage::Receive(incoming_of(b), x, y, crc)
-        }
-        4 => {
-            let bits = plug_fields::join(y, z);
-            let crc = plug_fields::join(b[4], b[5]);
-            MemoryStage::Send(outgoing_of(b), x, bits, crc)
-        }
-        5 => {
-            let t = target_of(z, plug_fields::join(b[4], b[5]));
-            MemoryStage::Armed(plug_fields::mode_of(y), t, x)
-        }
+        3 => MemoryStage::Receive(incoming_of(b), x, y, word_at(b, 3)),
+        4 => MemoryStage::Send(outgoing_of(b), x, word_at(b, 2), word_at(b, 4)),
+        5 => MemoryStage::Armed(plug_fields::mode_of(y), target_at(b, 3), x),
         _ => MemoryStage::Silent,
     }
 }

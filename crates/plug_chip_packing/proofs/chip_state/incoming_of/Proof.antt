@@ -9,8 +9,8 @@ unfolding incomingOf
 incoming-of-spec =
     tie.close (tie.spec
     (λ c. search needs) (λ c. search needs) (λ c κs. search needs) (λ c. search needs) (λ c κs. search needs) (λ c. search needs) (λ c. search needs)
-    (λ c. search needs) (λ c. search needs) (λ c κs. search needs) (λ c κs. search needs) (λ c. search needs) (λ c κs. search needs)
+    (λ c κs. search needs) (λ c κs. search needs)
     (λ c. simp (c .before .before .match .keys1, c .command-of .ensures))
     (λ c. simp (c .before .before .before .match .keys2, c .before .command-of2 .ensures))
-    (λ c. simp (c .before .before .before .before .before .before .before .match .keys3, c .mode-of .ensures, c .before .before .target-of .ensures, c .before .before .before .join .ensures))
+    (λ c. rw (c .before .before .before .match .keys3, c .before .mode-of .ensures, c .target-at .ensures))
     (λ c. simp (ne-eqb _ _ (c .match .rest .0 .0 .1), ne-eqb _ _ (c .match .rest .0 .1), ne-eqb _ _ (c .match .rest .1))))

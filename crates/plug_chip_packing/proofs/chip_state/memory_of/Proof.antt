@@ -8,10 +8,9 @@ pub memory-of-spec : {M : Type 1} → statement M
 unfolding memoryOf
 memory-of-spec =
     tie.close (tie.spec
-    (λ c. search needs) (λ c. search needs) (λ c. search needs) (λ c. search needs) (λ c. search needs) (λ c κs. search needs) (λ c κs. search needs)
-    (λ c κs. search needs) (λ c. search needs) (λ c. search needs) (λ c κs. search needs) (λ c κs. search needs) (λ c. search needs) (λ c. search needs)
+    (λ c. search needs) (λ c. search needs) (λ c. search needs) (λ c κs. search needs) (λ c κs. search needs) (λ c κs. search needs) (λ c κs. search needs)
     (λ c κs. search needs) (λ c κs. search needs) (λ c κs. search needs)
-    (λ c. rw (c .before .before .before .match .keys1, c .incoming-of .ensures, c .before .join .ensures))
-    (λ c. rw (c .before .before .before .before .before .match .keys2, c .outgoing-of .ensures, c .before .join3 .ensures, c .before .before .before .before .join2 .ensures))
-    (λ c. rw (c .before .before .before .before .before .match .keys3, c .mode-of .ensures, c .before .target-of .ensures, c .before .before .join4 .ensures))
+    (λ c. rw (c .before .before .match .keys1, c .before .incoming-of .ensures, c .word-at .ensures))
+    (λ c. rw (c .before .before .before .match .keys2, c .before .before .outgoing-of .ensures, c .word-at3 .ensures, c .before .word-at2 .ensures))
+    (λ c. rw (c .before .before .match .keys3, c .before .mode-of .ensures, c .target-at .ensures))
     (λ c. rw (ne-eqb _ _ (c .match .rest .0 .0 .1), ne-eqb _ _ (c .match .rest .0 .1), ne-eqb _ _ (c .match .rest .1))))
