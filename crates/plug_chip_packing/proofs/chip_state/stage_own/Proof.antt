@@ -49,4 +49,5 @@ stage-own-spec =
     (rw (same-own b 4, high-joined, same-own b 5)))
     (λ c.
     let b = c .before .before .before .args .b .now in
-    rw (ne-eqb _ _ (c .match .rest .0 .0 .0 .0 .1), ne-eqb _ _ (c .match .rest .0 .0 .0 .1), ne-eqb _ _ (c .match .rest .0 .0 .1), ne-eqb _ _ (c .match .rest .0 .1), ne-eqb _ _ (c .match .rest .1), same-not b 0 (c .match .rest .0 .0 .0 .0 .0 .1))))
+    rw (ne-eqb _ _ (c .match .rest .0 .0 .0 .0 .1), ne-eqb _ _ (c .match .rest .0 .0 .0 .1), ne-eqb _ _ (c .match .rest .0 .0 .1))
+    (rw (ne-eqb _ _ (c .match .rest .0 .1), ne-eqb _ _ (c .match .rest .1), same-not b 0 (c .match .rest .0 .0 .0 .0 .0 .1)))))

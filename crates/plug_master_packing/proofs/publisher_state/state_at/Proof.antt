@@ -7,4 +7,5 @@ state-at-spec =
     tie.close (tie.spec
     (λ c. search needs) (λ c κs. search needs) (λ c κs. search needs) (λ c κs. search needs) (λ c. search needs) (λ c. search needs) (λ c. search needs)
     (λ c κs. search needs)
-    (λ c. simp (c .page-of .ensures, c .before .before .before .before .stage-of .ensures, c .before .before .before .before .before .of-mode .ensures, c .before .before .before .before .before .before .mode-of .ensures)))
+    (λ c. simp (c .page-of .ensures, c .before .before .before .before .stage-of .ensures)
+    (simp (c .before .before .before .before .before .of-mode .ensures, c .before .before .before .before .before .before .mode-of .ensures))))
