@@ -5,7 +5,7 @@ use mathlib.Core.List.{List, [], _∷_, map}
 use lib.Dec.{eqb, ltb}
 use lib.ListN.{length}
 use Rattle.base_types.specs.Outcome.{Outcome, refused, accepted, Done, unlessRefused, following, inOrder}
-use Rattle.bus_events.specs.declared.Event.the-variants.{Reset}
+use Rattle.bus_events.specs.Events.{reset}
 use Rattle.bus_events.specs.Codes.{codeOf}
 use Rattle.bus_scripts.specs.Next.{Next, send, tells}
 use Rattle.bus_scripts.specs.Joint as joint
@@ -38,7 +38,7 @@ lastFrom told (a ∷ rest) = lastFrom a rest
 
 -- before the first call: the reset to come
 abbrev pub toCome : Outcome Next
-toCome = accepted (send Reset)
+toCome = accepted (send reset)
 
 -- 2 for a state outside its ranges and for a byte that is no reply, 10 for a buffer
 abbrev pub fedJudged : Bool → List ℕ → Bool → Outcome Done
