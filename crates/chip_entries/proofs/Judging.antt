@@ -1,27 +1,14 @@
--- What the entries on a page and those on a chip judge, and how they then go on.
+-- What the entries on a chip judge, and how they then go on.
 use Prim.Native.Nat.{ℕ}
 use mathlib.Core.Path.{_≡_, refl, sym, ap, _∙_}
 use mathlib.Core.Bool.{Bool, true, false, _&&_}
 use mathlib.Core.List.{List}
 use Rattle.base_types.specs.Outcome.{Outcome, refused, accepted, judge, Done, done, following, inOrder}
 use Rattle.bus_events.specs.declared.Event.{Event}
-use Rattle.chip_memory.specs.Layout.{isImage, isPage}
+use Rattle.chip_memory.specs.Layout.{isImage}
 use Rattle.chip_entries.specs.declared.event.Stage.{Stage}
 use Rattle.chip_entries.specs.declared.event.State.{State}
 use Rattle.chip_entries.specs.Event.{chipInRange, replyOf, imageAfter, stageAfter, eventAnswer, eventState, eventImage}
-use Rattle.chip_entries.specs.Page.{onPage, pageAnswer}
-
-pub on-page : {A : Type 0} (n : ℕ) (img : List ℕ) (p : ℕ) {j : Outcome Done} (answer : Outcome A) → j ≡ pageAnswer n img p
-    → following j answer ≡ onPage n img p answer
-unfolding pageAnswer
-on-page n img p answer e = rw e (go (isImage n img) (isPage n p))
-  where
-    go : (s t : Bool) → following (judge s 1 (judge t 3 (accepted done))) answer ≡ judge s 1 (judge t 3 answer)
-    go true true = refl
-    go true false = refl
-    go false t = refl
-
--- ---- the judgement of a chip
 
 module _ (n : ℕ) (s : State) (e : Event) (img : List ℕ) where
   abbrev judged : Outcome Done

@@ -1,5 +1,2 @@
 pub mod Event
-pub mod Free
-pub mod Page
 pub mod Run
-pub mod Walk

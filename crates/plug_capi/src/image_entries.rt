@@ -1,6 +1,6 @@
 // Entries on an image: walk, page, free page.
 ghost use mathlib.Core.Path.{_≡_};
-ghost use Rattle.chip_entries.specs.Page.{copyAnswer, copyBuffer};
+ghost use Rattle.chip_images.specs.Page.{copyAnswer, copyBuffer};
 ghost use Rattle.plug_answers.specs.Answers.{codeIn, answered};
 ghost use Rattle.plug_image_calls.specs.Image.{walkValues, freeValues};
 use plug_image_calls::image;

@@ -8,9 +8,9 @@ use lib.ListN.{length}
 use Rattle.base_types.specs.Outcome.{accepted, judge, done, unlessRefused}
 use Rattle.chip_memory.specs.Layout.{isImage, isPage}
 use Rattle.chip_memory.specs.Image.{pageBytes}
-use Rattle.chip_entries.specs.Walk.{walkAnswer}
-use Rattle.chip_entries.specs.Free.{freeAnswer}
-use Rattle.chip_entries.specs.Page.{copyAnswer, copyBuffer}
+use Rattle.chip_images.specs.Walk.{walkAnswer}
+use Rattle.chip_images.specs.Free.{freeAnswer}
+use Rattle.chip_images.specs.Page.{copyAnswer, copyBuffer}
 use Rattle.plug_answers.specs.Calls.{pageNumber}
 use Rattle.plug_answers.proofs.Pages.{same-at}
 

@@ -7,8 +7,8 @@ use Rattle.base_types.specs.declared.address.Page.{Page}
 use Rattle.base_types.specs.declared.verdict.Verdict.{Verdict}
 use Rattle.base_types.specs.declared.verdict.Verdict.the-variants.{Final, Loop, Outside}
 use Rattle.chip_memory.specs.Layout.{isImage}
-use Rattle.chip_entries.specs.Walk.{walkAnswer}
-use Rattle.chip_entries.specs.Free.{freeAnswer}
+use Rattle.chip_images.specs.Walk.{walkAnswer}
+use Rattle.chip_images.specs.Free.{freeAnswer}
 use Rattle.plug_answers.specs.Answers.{isAnswer}
 
 -- Final gives the page and the hops; 4; 5 with the number

@@ -1,15 +1,15 @@
 // On an image: walk, page, free page.
 ghost use mathlib.Core.Path.{_≡_};
-ghost use Rattle.chip_entries.specs.Free.{freeOutcome};
-ghost use Rattle.chip_entries.specs.Walk.{walkOutcome};
-ghost use Rattle.chip_entries.specs.Page.{copyAnswer, copyBuffer};
+ghost use Rattle.chip_images.specs.Free.{freeOutcome};
+ghost use Rattle.chip_images.specs.Walk.{walkOutcome};
+ghost use Rattle.chip_images.specs.Page.{copyAnswer, copyBuffer};
 ghost use Rattle.plug_answers.specs.Answers.{codeIn, answered};
 ghost use Rattle.plug_image_calls.specs.Image.{verdictValues, walkedValues, walkValues, foundValues, freeValues};
 use base_types::address::Page;
 use base_types::refusal::Refusal;
 use base_types::verdict::Verdict;
-use chip_entries::free::FreePage;
-use chip_entries::walk::Walked;
+use chip_images::free::FreePage;
+use chip_images::walk::Walked;
 use chip_memory::layout;
 use plug_answers::answer;
 use plug_answers::calls;
@@ -50,7 +50,7 @@ pub fn walk(image: &[u8], page: u32, answer: &mut [u8]) -> u32
     if !answer::is_answer(answer) {
         return 10;
     }
-    tell_walked(chip_entries::walk::walk(image, calls::page(page)), answer)
+    tell_walked(chip_images::walk::walk(image, calls::page(page)), answer)
 }
 
 // A page's 32 bytes into a buffer.
@@ -58,7 +58,7 @@ pub fn page(image: &[u8], page: u32, buffer: &mut [u8]) -> u32
     ensures code { λ r. ⌜ r ≡ codeIn (copyAnswer 64 (now (image .entry)) page (now (buffer .entry))) ⌝ }
     ensures buffer { λ r. ⌜ now (buffer .exit) ≡ copyBuffer 64 (now (image .entry)) page (now (buffer .entry)) ⌝ }
 {
-    answer::code(chip_entries::page::copy(image, calls::page(page), buffer))
+    answer::code(chip_images::page::copy(image, calls::page(page), buffer))
 }
 
 // A free page, or a refusal.
@@ -86,8 +86,5 @@ pub fn free_page(image: &[u8], other: u32, answer: &mut [u8]) -> u32
     if !answer::is_answer(answer) {
         return 10;
     }
-    tell_found(
-        chip_entries::free::lowest(image, calls::page(other)),
-        answer,
-    )
+    tell_found(chip_images::free::lowest(image, calls::page(other)), answer)
 }

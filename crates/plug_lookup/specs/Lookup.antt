@@ -7,8 +7,8 @@ use Rattle.base_types.specs.Outcome.{Outcome, refused, accepted, judge, refusin
 use Rattle.base_types.specs.declared.address.Page.{Page}
 use Rattle.base_types.specs.declared.verdict.Verdict.{Verdict}
 use Rattle.base_types.specs.declared.verdict.Verdict.the-variants.{Final, Loop, Outside}
-use Rattle.chip_entries.specs.Walk.{walkAnswer}
-use Rattle.chip_entries.specs.Page.{pagePart}
+use Rattle.chip_images.specs.Walk.{walkAnswer}
+use Rattle.chip_images.specs.Page.{pagePart}
 use Rattle.base_tenths.specs.Tenths.{signedOf, isValue}
 use Rattle.plug_lookup.specs.declared.end.End.{End}
 use Rattle.plug_lookup.specs.declared.end.End.the-variants.{Refused, At}

@@ -4,7 +4,7 @@ ghost use Rattle.plug_lookup.specs.Lookup.{finalOutcome, endOutcome, end
 use base_types::address::Page;
 use base_types::refusal::Refusal;
 use base_types::verdict::Verdict;
-use chip_entries::walk::Walked;
+use chip_images::walk::Walked;
 
 pub enum End {
     Refused(Refusal),
@@ -25,7 +25,7 @@ fn ended(verdict: Verdict) -> End
 pub fn of(image: &[u8], page: Page) -> End
     ensures { λ r. ⌜ endOutcome r ≡ endOf 64 (now (image .entry)) (page .0) ⌝ }
 {
-    match chip_entries::walk::walk(image, page) {
+    match chip_images::walk::walk(image, page) {
         Walked::Refused(r) => End::Refused(r),
         Walked::Ended(verdict) => ended(verdict),
     }

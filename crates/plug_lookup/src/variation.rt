@@ -29,7 +29,7 @@ fn in_page(image: &[u8], column: u32, page: Page) -> Tenths
 {
     match end::of(image, page) {
         End::Refused(r) => Tenths::Refused(r),
-        End::At(q) => in_column(chip_entries::page::part(image, q), column),
+        End::At(q) => in_column(chip_images::page::part(image, q), column),
     }
 }
 
@@ -58,6 +58,6 @@ pub fn at(image: &[u8], latitude: i32, column: u32) -> Tenths
 {
     match end::of(image, Page(1)) {
         End::Refused(r) => Tenths::Refused(r),
-        End::At(q) => in_header(image, latitude, column, chip_entries::page::part(image, q)),
+        End::At(q) => in_header(image, latitude, column, chip_images::page::part(image, q)),
     }
 }

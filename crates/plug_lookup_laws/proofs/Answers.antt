@@ -24,8 +24,8 @@ use Rattle.chip_chain.proofs.Walks.{final-means}
 use Rattle.chip_chain_laws.specs.Update.{PageReading, bytesUnder, readOf}
 use Rattle.chip_chain_laws.proofs.Relink.{final-below}
 use Rattle.chip_entries.specs.Event.{eventImage}
-use Rattle.chip_entries.specs.Page.{pageAnswer, pagePart}
-use Rattle.chip_entries.specs.Walk.{walkAnswer}
+use Rattle.chip_images.specs.Page.{pageAnswer, pagePart}
+use Rattle.chip_images.specs.Walk.{walkAnswer}
 use Rattle.chip_entries.specs.Run.{Chip, next, draws, run}
 use Rattle.chip_entries.proofs.Kept.{image-length}
 use Rattle.base_tenths.specs.Tenths.{wordOf}

@@ -15,8 +15,8 @@ use Rattle.base_types.specs.declared.verdict.Verdict.{Verdict}
 use Rattle.base_types.specs.declared.verdict.Verdict.the-variants.{Final, Loop, Outside}
 use Rattle.chip_memory.specs.Layout.{isImage, isPage}
 use Rattle.base_types.proofs.Scan.{both-true, both-intro, every-means}
-use Rattle.chip_entries.specs.Page.{pagePart}
-use Rattle.chip_entries.specs.Walk.{walkAnswer}
+use Rattle.chip_images.specs.Page.{pagePart}
+use Rattle.chip_images.specs.Walk.{walkAnswer}
 use Rattle.base_tenths.specs.Tenths.{isValue, signedOf}
 use Rattle.plug_lookup.specs.Header.{wordAt, rowsOf, columnsOf, edgeOf, heightOf, rowPage, fieldsRight, pagesRight, restBlank, isHeader, lowerEdge, covers, rowFrom, rowAnswer}
 use Rattle.plug_lookup.specs.Lookup.{andThen, finalOutcome, endOf, columnValue, pageValue, rowValue, headerValue, lookupAnswer}

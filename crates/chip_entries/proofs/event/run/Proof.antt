@@ -24,5 +24,7 @@ run-spec =
     (λ c. search needs) (λ c. search needs)
     (λ c. let judged = c .before .before .before .before .before .before .before .before .before .judge .ensures in
     let ran = c .before .before .before .before .run-within .ensures in
-    accepted-run 64 _ _ _ _ (sym (ap judgedOutcome (sym (c .before .before .before .before .before .before .before .enum-told .given .1)) ∙ judged ∙ simp (c .before .before .before .before .before .before .before .before .before .before .are-events .ensures)))
+    let told = c .before .before .before .before .before .before .before .enum-told .given .1 in
+    let events = c .before .before .before .before .before .before .before .before .before .before .are-events .ensures in
+    accepted-run 64 _ _ _ _ (sym (ap judgedOutcome (sym told) ∙ judged ∙ simp events))
     _ _ _ (ran .0) (ran .1)))

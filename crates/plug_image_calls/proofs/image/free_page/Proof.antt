@@ -2,7 +2,7 @@ use mathlib.Core.Path.{sym, ap, _∙_}
 use borrow.Author.Tests.{not-false, not-true}
 use Rattle.base_types.specs.Outcome.{Outcome}
 use Rattle.base_types.specs.declared.address.Page.{Page}
-use Rattle.chip_entries.specs.Free.{freeAnswer}
+use Rattle.chip_images.specs.Free.{freeAnswer}
 use Rattle.plug_answers.specs.Answers.{codeIn, answered}
 use Rattle.plug_image_calls.specs.Image.{foundValues, freeValues}
 use Rattle.plug_image_calls.proofs.Pages.{free-same}

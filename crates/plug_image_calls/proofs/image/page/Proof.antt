@@ -1,7 +1,7 @@
 use Prim.Native.Nat.{ℕ}
 use mathlib.Core.Path.{ap, _∙_}
 use Rattle.base_types.specs.Outcome.{Outcome, Done}
-use Rattle.chip_entries.specs.Page.{copyAnswer, copyBuffer}
+use Rattle.chip_images.specs.Page.{copyAnswer, copyBuffer}
 use Rattle.plug_answers.specs.Answers.{codeIn}
 use Rattle.plug_image_calls.proofs.Pages.{copy-same, copied-same}
 use borrow.Author.Needs.{needs}

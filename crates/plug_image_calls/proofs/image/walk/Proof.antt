@@ -2,7 +2,7 @@ use mathlib.Core.Path.{sym, ap, _∙_}
 use borrow.Author.Tests.{not-false, not-true}
 use Rattle.base_types.specs.Outcome.{Outcome}
 use Rattle.base_types.specs.declared.verdict.Verdict.{Verdict}
-use Rattle.chip_entries.specs.Walk.{walkAnswer}
+use Rattle.chip_images.specs.Walk.{walkAnswer}
 use Rattle.plug_answers.specs.Answers.{codeIn, answered}
 use Rattle.plug_image_calls.specs.Image.{walkedValues, walkValues}
 use Rattle.plug_image_calls.proofs.Pages.{walk-same}

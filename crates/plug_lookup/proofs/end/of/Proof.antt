@@ -1,6 +1,6 @@
 use mathlib.Core.Path.{sym, ap, _∙_}
 use borrow.Author.Needs.{needs}
-use Rattle.chip_entries.specs.Walk.{walkOutcome}
+use Rattle.chip_images.specs.Walk.{walkOutcome}
 use Rattle.plug_lookup.specs.Lookup.{andThen, finalOutcome, endOf}
 use Rattle.plug_lookup.proofs.end.of.Statement.{statement}
 use Rattle.plug_lookup.proofs.end.of.Tie as tie

@@ -6,7 +6,7 @@ use mir.Syntax.{w32}
 use mir.ValLaws.{toZ-ofZ}
 use borrow.Author.Needs.{needs}
 use Rattle.base_types.specs.declared.address.Page.{Page}
-use Rattle.chip_entries.specs.Page.{pagePart}
+use Rattle.chip_images.specs.Page.{pagePart}
 use Rattle.plug_lookup.specs.Lookup.{andThen, endOutcome, headerValue, lookupAnswer}
 use Rattle.plug_lookup.proofs.variation.at.Statement.{statement}
 use Rattle.plug_lookup.proofs.variation.at.Tie as tie

@@ -1,7 +1,7 @@
 use mathlib.Core.Path.{sym, ap, _∙_}
 use borrow.Author.Needs.{needs}
 use Rattle.base_types.specs.declared.address.Page.{Page}
-use Rattle.chip_entries.specs.Page.{pagePart}
+use Rattle.chip_images.specs.Page.{pagePart}
 use Rattle.plug_lookup.specs.Lookup.{andThen, endOutcome, columnValue, pageValue}
 use Rattle.plug_lookup.proofs.variation.in_page.Statement.{statement}
 use Rattle.plug_lookup.proofs.variation.in_page.Tie as tie

@@ -1,10 +1,10 @@
 use mathlib.Core.Path.{_∙_, sym, ap}
 use Rattle.base_types.specs.Outcome.{judgedOutcome}
-use Rattle.chip_entries.specs.Free.{foundOutcome, freeAnswer}
-use Rattle.chip_entries.proofs.Judging.{on-page}
+use Rattle.chip_images.specs.Free.{foundOutcome, freeAnswer}
+use Rattle.chip_images.proofs.Judging.{on-page}
 use borrow.Author.Needs.{needs}
-use Rattle.chip_entries.proofs.free.lowest.Statement.{statement}
-use Rattle.chip_entries.proofs.free.lowest.Tie as tie
+use Rattle.chip_images.proofs.free.lowest.Statement.{statement}
+use Rattle.chip_images.proofs.free.lowest.Tie as tie
 
 pub lowest-spec : {M : Type 1} → statement M
 unfolding freeAnswer

@@ -1,7 +1,7 @@
 // A page's own 32 bytes.
 ghost use mathlib.Core.Path.{_≡_};
 ghost use Rattle.base_types.specs.Outcome.{judgedOutcome};
-ghost use Rattle.chip_entries.specs.Page.{pageAnswer, pagePart, copyAnswer, copyBuffer};
+ghost use Rattle.chip_images.specs.Page.{pageAnswer, pagePart, copyAnswer, copyBuffer};
 use base_types::address::Page;
 use base_types::refusal::Judged;
 use base_types::refusal::Refusal;

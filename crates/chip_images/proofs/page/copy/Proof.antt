@@ -7,10 +7,10 @@ use Rattle.chip_memory.proofs.Pages.{page-length, copied-same}
 use Rattle.chip_memory.proofs.Sizes.{image-length, page-below}
 use mathlib.Core.Path.{_∙_, sym}
 use borrow.Author.Tests.{eq-eqb, ne-eqb, not-false, not-true}
-use Rattle.chip_entries.specs.Page.{copyAnswer, copyBuffer}
+use Rattle.chip_images.specs.Page.{copyAnswer, copyBuffer}
 use borrow.Author.Needs.{needs}
-use Rattle.chip_entries.proofs.page.copy.Statement.{statement}
-use Rattle.chip_entries.proofs.page.copy.Tie as tie
+use Rattle.chip_images.proofs.page.copy.Statement.{statement}
+use Rattle.chip_images.proofs.page.copy.Tie as tie
 
 pub copy-spec : {M : Type 1} → statement M
 unfolding copyAnswer copyBuffer

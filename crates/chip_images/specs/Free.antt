@@ -8,12 +8,12 @@ use Rattle.chip_chain.specs.declared.free.Found.{Found}
 use Rattle.chip_chain.specs.declared.free.Found.the-variants.{At, Nothing}
 use Rattle.chip_chain.specs.Walk.{redirectedCount}
 use Rattle.chip_chain.specs.Free.{lowestFree, freeCount}
-use Rattle.chip_entries.specs.declared.free.FreePage.{FreePage}
-use Rattle.chip_entries.specs.declared.free.FreePage.the-variants.{Refused, At as FreeAt}
-use Rattle.chip_entries.specs.declared.free.PageCounts.{PageCounts}
-use Rattle.chip_entries.specs.declared.free.Counted.{Counted}
-use Rattle.chip_entries.specs.declared.free.Counted.the-variants.{Refused as CountRefused, Pages}
-use Rattle.chip_entries.specs.Page.{onPage}
+use Rattle.chip_images.specs.declared.free.FreePage.{FreePage}
+use Rattle.chip_images.specs.declared.free.FreePage.the-variants.{Refused, At as FreeAt}
+use Rattle.chip_images.specs.declared.free.PageCounts.{PageCounts}
+use Rattle.chip_images.specs.declared.free.Counted.{Counted}
+use Rattle.chip_images.specs.declared.free.Counted.the-variants.{Refused as CountRefused, Pages}
+use Rattle.chip_images.specs.Page.{onPage}
 
 abbrev pub freeOutcome : FreePage → Outcome Page
 freeOutcome (Refused r) = refusing r

@@ -1,6 +1,6 @@
 // Free pages, and how many there are.
 ghost use mathlib.Core.Path.{_≡_};
-ghost use Rattle.chip_entries.specs.Free.{freeOutcome, foundOutcome, freeAnswer, countsOutcome, countsAnswer};
+ghost use Rattle.chip_images.specs.Free.{freeOutcome, foundOutcome, freeAnswer, countsOutcome, countsAnswer};
 use crate::page;
 use base_types::address::Page;
 use base_types::refusal::Judged;

@@ -1,9 +1,9 @@
 use mathlib.Core.Path.{_∙_, sym}
 use borrow.Author.Tests.{not-false, not-true}
-use Rattle.chip_entries.specs.Page.{pageAnswer}
+use Rattle.chip_images.specs.Page.{pageAnswer}
 use borrow.Author.Needs.{needs}
-use Rattle.chip_entries.proofs.page.judge.Statement.{statement}
-use Rattle.chip_entries.proofs.page.judge.Tie as tie
+use Rattle.chip_images.proofs.page.judge.Statement.{statement}
+use Rattle.chip_images.proofs.page.judge.Tie as tie
 
 pub judge-spec : {M : Type 1} → statement M
 unfolding pageAnswer

@@ -1,6 +1,6 @@
 use borrow.Author.Needs.{needs}
-use Rattle.chip_entries.proofs.free.found.Statement.{statement}
-use Rattle.chip_entries.proofs.free.found.Tie as tie
+use Rattle.chip_images.proofs.free.found.Statement.{statement}
+use Rattle.chip_images.proofs.free.found.Tie as tie
 
 pub found-spec : {M : Type 1} → statement M
 found-spec =

@@ -1,9 +1,9 @@
 use mathlib.Core.Path.{_∙_, sym}
 use borrow.Author.Tests.{not-false, not-true}
-use Rattle.chip_entries.specs.Free.{countsAnswer}
+use Rattle.chip_images.specs.Free.{countsAnswer}
 use borrow.Author.Needs.{needs}
-use Rattle.chip_entries.proofs.free.counts.Statement.{statement}
-use Rattle.chip_entries.proofs.free.counts.Tie as tie
+use Rattle.chip_images.proofs.free.counts.Statement.{statement}
+use Rattle.chip_images.proofs.free.counts.Tie as tie
 
 pub counts-spec : {M : Type 1} → statement M
 unfolding countsAnswer

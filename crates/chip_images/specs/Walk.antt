@@ -4,9 +4,9 @@ use mathlib.Core.List.{List}
 use Rattle.base_types.specs.Outcome.{Outcome, accepted, refusing}
 use Rattle.base_types.specs.declared.verdict.Verdict.{Verdict}
 use Rattle.chip_chain.specs.Walk.{walkOf}
-use Rattle.chip_entries.specs.declared.walk.Walked.{Walked}
-use Rattle.chip_entries.specs.declared.walk.Walked.the-variants.{Refused, Ended}
-use Rattle.chip_entries.specs.Page.{onPage}
+use Rattle.chip_images.specs.declared.walk.Walked.{Walked}
+use Rattle.chip_images.specs.declared.walk.Walked.the-variants.{Refused, Ended}
+use Rattle.chip_images.specs.Page.{onPage}
 
 abbrev pub walkOutcome : Walked → Outcome Verdict
 walkOutcome (Refused r) = refusing r

@@ -1,7 +1,7 @@
-use Rattle.chip_entries.specs.Page.{pagePart}
+use Rattle.chip_images.specs.Page.{pagePart}
 use borrow.Author.Needs.{needs}
-use Rattle.chip_entries.proofs.page.part.Statement.{statement}
-use Rattle.chip_entries.proofs.page.part.Tie as tie
+use Rattle.chip_images.proofs.page.part.Statement.{statement}
+use Rattle.chip_images.proofs.page.part.Tie as tie
 
 pub part-spec : {M : Type 1} → statement M
 unfolding pagePart

@@ -1,10 +1,10 @@
 use mathlib.Core.Path.{_∙_, sym, ap}
 use Rattle.base_types.specs.Outcome.{accepted, refusing, judgedOutcome}
-use Rattle.chip_entries.specs.Walk.{walkAnswer}
-use Rattle.chip_entries.proofs.Judging.{on-page}
+use Rattle.chip_images.specs.Walk.{walkAnswer}
+use Rattle.chip_images.proofs.Judging.{on-page}
 use borrow.Author.Needs.{needs}
-use Rattle.chip_entries.proofs.walk.walk.Statement.{statement}
-use Rattle.chip_entries.proofs.walk.walk.Tie as tie
+use Rattle.chip_images.proofs.walk.walk.Statement.{statement}
+use Rattle.chip_images.proofs.walk.walk.Tie as tie
 
 pub walk-spec : {M : Type 1} → statement M
 unfolding walkAnswer

@@ -1,6 +1,6 @@
 // The walk from a page.
 ghost use mathlib.Core.Path.{_≡_};
-ghost use Rattle.chip_entries.specs.Walk.{walkOutcome, walkAnswer};
+ghost use Rattle.chip_images.specs.Walk.{walkOutcome, walkAnswer};
 use crate::page;
 use base_types::address::Page;
 use base_types::refusal::Judged;
