@@ -10,7 +10,7 @@ use lib.Dec.{lit<}
 use Rattle.base_types.specs.Bits.{one, odd, bits_of}
 use Rattle.base_types.proofs.Values.{one-odd}
 use Rattle.base_types.proofs.Words.{half}
-use Rattle.base_crc.specs.Crc.{crcBit, crcBits}
+use Rattle.base_crc.specs.Crc.{crc_bit, crc_bits}
 
 -- ---- xor
 
@@ -63,35 +63,35 @@ fed : (a c x y : ℕ) → (bit_xor a c + one (odd (bit_xor x y))) % 2 ≡ ((a + 
 fed a c x y = simp (one-odd, mod-right, mod-left) (sums a c x y)
 
 module _ (p : ℕ) where
-  step : (a c x y : ℕ) → crcBit p (bit_xor a c) (odd (bit_xor x y)) ≡ bit_xor (crcBit p a (odd x)) (crcBit p c (odd y))
-  unfolding crcBit
+  step : (a c x y : ℕ) → crc_bit p (bit_xor a c) (odd (bit_xor x y)) ≡ bit_xor (crc_bit p a (odd x)) (crc_bit p c (odd y))
+  unfolding crc_bit
   step a c x y =
       ap₂ bit_xor (xor_shr a c 1) (times p _ _ _ (mod-lt (a + one (odd x)) (lit< tt)) (mod-lt (c + one (odd y)) (lit< tt)) (fed a c x y))
       ∙ xor-four (a / 2) (c / 2) ((a + one (odd x)) % 2 * p) ((c + one (odd y)) % 2 * p)
 
   -- a register that takes in its own lowest bit only shifts
-  own-step : (r : ℕ) → crcBit p r (odd r) ≡ r / 2
-  unfolding crcBit
+  own-step : (r : ℕ) → crc_bit p r (odd r) ≡ r / 2
+  unfolding crc_bit
   own-step r =
       let e : (r + one (odd r)) % 2 ≡ 0 = omega (arith, one-odd r) in
       ap (λ (f : ℕ). bit_xor (r / 2) (f * p)) e ∙ ap (bit_xor (r / 2)) (zero-mul p) ∙ xor_zero_r (r / 2)
 
   -- ---- a run of bits
 
-  pub linear : (n a c x y : ℕ) → crcBits p (bit_xor a c) (bits_of n (bit_xor x y)) ≡ bit_xor (crcBits p a (bits_of n x)) (crcBits p c (bits_of n y))
-  unfolding crcBits bits_of
+  pub linear : (n a c x y : ℕ) → crc_bits p (bit_xor a c) (bits_of n (bit_xor x y)) ≡ bit_xor (crc_bits p a (bits_of n x)) (crc_bits p c (bits_of n y))
+  unfolding crc_bits bits_of
   linear zero a c x y = refl
   linear (suc n) a c x y =
-      ap₂ (λ (r z : ℕ). crcBits p r (bits_of n z)) (step a c x y) (xor_shr x y 1)
-      ∙ linear n (crcBit p a (odd x)) (crcBit p c (odd y)) (x / 2) (y / 2)
+      ap₂ (λ (r z : ℕ). crc_bits p r (bits_of n z)) (step a c x y) (xor_shr x y 1)
+      ∙ linear n (crc_bit p a (odd x)) (crc_bit p c (odd y)) (x / 2) (y / 2)
 
-  own : (n r : ℕ) → crcBits p r (bits_of n r) ≡ r / 2 ^ n
-  unfolding crcBits bits_of
+  own : (n r : ℕ) → crc_bits p r (bits_of n r) ≡ r / 2 ^ n
+  unfolding crc_bits bits_of
   own zero r = sym (div-one r)
-  own (suc n) r = ap (λ (x : ℕ). crcBits p x (bits_of n (r / 2))) (own-step r) ∙ own n (r / 2) ∙ half r n
+  own (suc n) r = ap (λ (x : ℕ). crc_bits p x (bits_of n (r / 2))) (own-step r) ∙ own n (r / 2) ∙ half r n
 
   -- what the register shifts out, xored with the CRC of the n low bits of register and run, xored
-  pub apart : (n r x : ℕ) → crcBits p r (bits_of n x) ≡ bit_xor (r / 2 ^ n) (crcBits p 0 (bits_of n (bit_xor r x)))
+  pub apart : (n r x : ℕ) → crc_bits p r (bits_of n x) ≡ bit_xor (r / 2 ^ n) (crc_bits p 0 (bits_of n (bit_xor r x)))
   apart n r x =
-      ap₂ (λ (a b : ℕ). crcBits p a (bits_of n b)) (sym (xor_zero_r r)) (sym (xor-back r x))
-      ∙ linear n r 0 r (bit_xor r x) ∙ ap (λ (z : ℕ). bit_xor z (crcBits p 0 (bits_of n (bit_xor r x)))) (own n r)
+      ap₂ (λ (a b : ℕ). crc_bits p a (bits_of n b)) (sym (xor_zero_r r)) (sym (xor-back r x))
+      ∙ linear n r 0 r (bit_xor r x) ∙ ap (λ (z : ℕ). bit_xor z (crc_bits p 0 (bits_of n (bit_xor r x)))) (own n r)

@@ -7,25 +7,25 @@ use native.Mathlib.Nat.{zero-mul, one-mul, mod-lt}
 use native.Mathlib.Omega.{arith}
 use lib.Bits.{xor_lt}
 use lib.Dec.{lit<}
-use Rattle.base_types.specs.Bits.{one, bits_of, bitsOfBytes}
-use Rattle.base_crc.specs.Crc.{crcBit, crcBits, crcByte, crcBytes}
+use Rattle.base_types.specs.Bits.{one, bits_of, bits_of_bytes}
+use Rattle.base_crc.specs.Crc.{crc_bit, crc_bits, crc_byte, crc_bytes}
 
 module _ (p : ℕ) where
-  pub bits-after : (r : ℕ) (xs ys : List Bool) → crcBits p r (xs ++ ys) ≡ crcBits p (crcBits p r xs) ys
-  unfolding crcBits
+  pub bits-after : (r : ℕ) (xs ys : List Bool) → crc_bits p r (xs ++ ys) ≡ crc_bits p (crc_bits p r xs) ys
+  unfolding crc_bits
   bits-after r [] ys = refl
-  bits-after r (x ∷ xs) ys = bits-after (crcBit p r x) xs ys
+  bits-after r (x ∷ xs) ys = bits-after (crc_bit p r x) xs ys
 
-  pub bytes_after : (r : ℕ) (xs ys : List ℕ) → crcBytes p r (xs ++ ys) ≡ crcBytes p (crcBytes p r xs) ys
-  unfolding crcBytes
+  pub bytes_after : (r : ℕ) (xs ys : List ℕ) → crc_bytes p r (xs ++ ys) ≡ crc_bytes p (crc_bytes p r xs) ys
+  unfolding crc_bytes
   bytes_after r [] ys = refl
-  bytes_after r (x ∷ xs) ys = bytes_after (crcByte p r x) xs ys
+  bytes_after r (x ∷ xs) ys = bytes_after (crc_byte p r x) xs ys
 
   -- bytes count by their bits alone
-  pub bytes_bits : (r : ℕ) (bytes : List ℕ) → crcBytes p r bytes ≡ crcBits p r (bitsOfBytes bytes)
-  unfolding crcBytes crcByte crcBits bitsOfBytes
+  pub bytes_bits : (r : ℕ) (bytes : List ℕ) → crc_bytes p r bytes ≡ crc_bits p r (bits_of_bytes bytes)
+  unfolding crc_bytes crc_byte crc_bits bits_of_bytes
   bytes_bits r [] = refl
-  bytes_bits r (b ∷ bs) = bytes_bits (crcBits p r (bits_of 8 b)) bs ∙ sym (bits-after r (bits_of 8 b) (bitsOfBytes bs))
+  bytes_bits r (b ∷ bs) = bytes_bits (crc_bits p r (bits_of 8 b)) bs ∙ sym (bits-after r (bits_of 8 b) (bits_of_bytes bs))
 
   -- a polynomial of k bits keeps a register of k bits
   module _ (k : ℕ) (fits : p < 2 ^ k) where
@@ -34,20 +34,20 @@ module _ (p : ℕ) where
     times-lt (suc zero) h = omega (arith, one-mul p)
     times-lt (suc (suc f)) h = absurd (omega arith)
 
-    pub bit-lt : (r : ℕ) (b : Bool) → r < 2 ^ k → crcBit p r b < 2 ^ k
-    unfolding crcBit
+    pub bit-lt : (r : ℕ) (b : Bool) → r < 2 ^ k → crc_bit p r b < 2 ^ k
+    unfolding crc_bit
     bit-lt r b h = xor_lt k (r / 2) ((r + one b) % 2 * p) (omega arith) (times-lt ((r + one b) % 2) (mod-lt (r + one b) (lit< tt)))
 
-    pub bits-lt : (bs : List Bool) (r : ℕ) → r < 2 ^ k → crcBits p r bs < 2 ^ k
-    unfolding crcBits
+    pub bits-lt : (bs : List Bool) (r : ℕ) → r < 2 ^ k → crc_bits p r bs < 2 ^ k
+    unfolding crc_bits
     bits-lt [] r h = h
-    bits-lt (b ∷ bs) r h = bits-lt bs (crcBit p r b) (bit-lt r b h)
+    bits-lt (b ∷ bs) r h = bits-lt bs (crc_bit p r b) (bit-lt r b h)
 
-    pub byte-lt : (b r : ℕ) → r < 2 ^ k → crcByte p r b < 2 ^ k
-    unfolding crcByte
+    pub byte-lt : (b r : ℕ) → r < 2 ^ k → crc_byte p r b < 2 ^ k
+    unfolding crc_byte
     byte-lt b r h = bits-lt (bits_of 8 b) r h
 
-    pub bytes_lt : (bs : List ℕ) (r : ℕ) → r < 2 ^ k → crcBytes p r bs < 2 ^ k
-    unfolding crcBytes
+    pub bytes_lt : (bs : List ℕ) (r : ℕ) → r < 2 ^ k → crc_bytes p r bs < 2 ^ k
+    unfolding crc_bytes
     bytes_lt [] r h = h
-    bytes_lt (b ∷ bs) r h = bytes_lt bs (crcByte p r b) (byte-lt b r h)
+    bytes_lt (b ∷ bs) r h = bytes_lt bs (crc_byte p r b) (byte-lt b r h)

@@ -12,7 +12,7 @@ use lib.Seq.{drop-cons}
 use lib.Dec.{eqb}
 use borrow.Author.Tests.{eqb-true, eqb-false}
 use Rattle.base_types.specs.Bits.{one, bits_of}
-use Rattle.base_crc.specs.Crc.{crcBit, crcBits, crcByte, crcBytes}
+use Rattle.base_crc.specs.Crc.{crc_bit, crc_bits, crc_byte, crc_bytes}
 
 -- the code's lowest bit, by a mask
 low : (reg : ℕ) → bit_and reg 1 ≡ reg % 2
@@ -32,12 +32,12 @@ beq-ne false true h = refl
 beq-ne false false h = sym h
 
 module _ (p reg : ℕ) where
-  stay : (bit : Bool) → (reg + one bit) % 2 ≡ 0 → reg / 2 ≡ crcBit p reg bit
-  unfolding crcBit
+  stay : (bit : Bool) → (reg + one bit) % 2 ≡ 0 → reg / 2 ≡ crc_bit p reg bit
+  unfolding crc_bit
   stay bit e = sym (ap (λ (x : ℕ). bit_xor (reg / 2) (x * p)) e ∙ ap (bit_xor (reg / 2)) (zero-mul p) ∙ xor_zero_r (reg / 2))
 
-  flip : (bit : Bool) → (reg + one bit) % 2 ≡ 1 → bit_xor (reg / 2) p ≡ crcBit p reg bit
-  unfolding crcBit
+  flip : (bit : Bool) → (reg + one bit) % 2 ≡ 1 → bit_xor (reg / 2) p ≡ crc_bit p reg bit
+  unfolding crc_bit
   flip bit e = sym (ap (λ (x : ℕ). bit_xor (reg / 2) (x * p)) e ∙ ap (bit_xor (reg / 2)) (one-mul p))
 
   -- the mask is 1, or not
@@ -47,33 +47,33 @@ module _ (p reg : ℕ) where
   clear : eqb (bit_and reg 1) 1 ≡ false → reg % 2 ≡ 0
   clear h = omega (arith, eqb-false (bit_and reg 1) 1 h, low reg)
 
-  pub same : (bit : Bool) → beq (eqb (bit_and reg 1) 1) bit ≡ true → reg / 2 ≡ crcBit p reg bit
+  pub same : (bit : Bool) → beq (eqb (bit_and reg 1) 1) bit ≡ true → reg / 2 ≡ crc_bit p reg bit
   same true h = stay true (omega (arith, set (beq-eq _ _ h)))
   same false h = stay false (omega (arith, clear (beq-eq _ _ h)))
 
-  pub differs : (bit : Bool) → beq (eqb (bit_and reg 1) 1) bit ≡ false → bit_xor (reg / 2) p ≡ crcBit p reg bit
+  pub differs : (bit : Bool) → beq (eqb (bit_and reg 1) 1) bit ≡ false → bit_xor (reg / 2) p ≡ crc_bit p reg bit
   differs true h = flip true (omega (arith, clear (beq-ne _ _ h)))
   differs false h = flip false (omega (arith, set (beq-ne _ _ h)))
 
 -- the next of the bits that are left
-pub next_bit : (p r b left : ℕ) {r' : ℕ} → 0 < left → r' ≡ crcBit p r (eqb (bit_and b 1) 1)
-    → crcBits p r' (bits_of (left - 1) (b / 2)) ≡ crcBits p r (bits_of left b)
-unfolding crcBits bits_of
+pub next_bit : (p r b left : ℕ) {r' : ℕ} → 0 < left → r' ≡ crc_bit p r (eqb (bit_and b 1) 1)
+    → crc_bits p r' (bits_of (left - 1) (b / 2)) ≡ crc_bits p r (bits_of left b)
+unfolding crc_bits bits_of
 next_bit p r b zero h e = absurd (not-suc-le-zero h)
 next_bit p r b (suc n) h e =
     let k : suc n - 1 ≡ n = omega arith in
-    ap₂ (λ (x m : ℕ). crcBits p x (bits_of m (b / 2))) (e ∙ ap (λ (x : ℕ). crcBit p r (eqb x 1)) (low b)) k
+    ap₂ (λ (x m : ℕ). crc_bits p x (bits_of m (b / 2))) (e ∙ ap (λ (x : ℕ). crc_bit p r (eqb x 1)) (low b)) k
 
-pub done : (p r b left : ℕ) → left ≡ 0 → r ≡ crcBits p r (bits_of left b)
-unfolding crcBits bits_of
-done p r b left e = sym (ap (λ (n : ℕ). crcBits p r (bits_of n b)) e)
+pub done : (p r b left : ℕ) → left ≡ 0 → r ≡ crc_bits p r (bits_of left b)
+unfolding crc_bits bits_of
+done p r b left e = sym (ap (λ (n : ℕ). crc_bits p r (bits_of n b)) e)
 
 -- the next of the bytes that are left
-pub next-byte : (p r : ℕ) (l : List ℕ) (i : ℕ) {r' : ℕ} → i < length l → r' ≡ crcByte p r (get_or l i 0)
-    → crcBytes p r' (drop (i + 1) l) ≡ crcBytes p r (drop i l)
-unfolding crcBytes
+pub next-byte : (p r : ℕ) (l : List ℕ) (i : ℕ) {r' : ℕ} → i < length l → r' ≡ crc_byte p r (get_or l i 0)
+    → crc_bytes p r' (drop (i + 1) l) ≡ crc_bytes p r (drop i l)
+unfolding crc_bytes
 next-byte p r l i h e = rw (add-one, drop-cons l i 0, e)
 
-pub done-bytes : (p r : ℕ) (l : List ℕ) (i : ℕ) → length l ≤ i → r ≡ crcBytes p r (drop i l)
-unfolding crcBytes
+pub done-bytes : (p r : ℕ) (l : List ℕ) (i : ℕ) → length l ≤ i → r ≡ crc_bytes p r (drop i l)
+unfolding crc_bytes
 done-bytes p r l i h = rw drop_of_length-le

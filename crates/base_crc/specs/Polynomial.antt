@@ -7,18 +7,18 @@ pub reflected : ℕ → List ℕ → ℕ
 reflected width [] = 0
 reflected width (e ∷ es) = 2 ^ (width - 1 - e) + reflected width es
 
-abbrev pub crc16Polynomial : ℕ
-crc16Polynomial = 0xA001
+abbrev pub crc16_polynomial : ℕ
+crc16_polynomial = 0xA001
 
-abbrev pub crc8Polynomial : ℕ
-crc8Polynomial = 0x8C
+abbrev pub crc8_polynomial : ℕ
+crc8_polynomial = 0x8C
 
 -- x^16 + x^15 + x^2 + 1
-pub crc16-powers : crc16Polynomial ≡ reflected 16 (15 ∷ 2 ∷ 0 ∷ [])
+pub crc16-powers : crc16_polynomial ≡ reflected 16 (15 ∷ 2 ∷ 0 ∷ [])
 unfolding reflected
 crc16-powers = refl
 
 -- x^8 + x^5 + x^4 + 1
-pub crc8-powers : crc8Polynomial ≡ reflected 8 (5 ∷ 4 ∷ 0 ∷ [])
+pub crc8-powers : crc8_polynomial ≡ reflected 8 (5 ∷ 4 ∷ 0 ∷ [])
 unfolding reflected
 crc8-powers = refl

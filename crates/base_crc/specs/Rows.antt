@@ -2,19 +2,19 @@
 use Rattle.std.specs.Prelude.{ℕ, refl, List, [], ◌∷◌}
 use Rattle.base_types.specs.Bits.{bits_of}
 use Rattle.base_types.specs.Rows.{Row, ◌gives◌, Hold}
-use Rattle.base_crc.specs.Crc.{crcBit, crcBits, crcByte, crcBytes, crc16From, crc8Of}
+use Rattle.base_crc.specs.Crc.{crc_bit, crc_bits, crc_byte, crc_bytes, crc16_from, crc8_of}
 
-pub crcRows : List (Row ℕ)
-crcRows =
+pub crc_rows : List (Row ℕ)
+crc_rows =
     -- Application Note 27: the worked example of each CRC
-    (crc16From 0x90F1 (0x75 ∷ []) gives 0x6390)
-    ∷ (crc8Of (0x02 ∷ 0x1C ∷ 0xB8 ∷ 0x01 ∷ 0x00 ∷ 0x00 ∷ 0x00 ∷ []) gives 0xA2)
+    (crc16_from 0x90F1 (0x75 ∷ []) gives 0x6390)
+    ∷ (crc8_of (0x02 ∷ 0x1C ∷ 0xB8 ∷ 0x01 ∷ 0x00 ∷ 0x00 ∷ 0x00 ∷ []) gives 0xA2)
     -- the CRC-8 of a whole registration number, its own CRC last, is 0
-    ∷ (crc8Of (0x02 ∷ 0x1C ∷ 0xB8 ∷ 0x01 ∷ 0x00 ∷ 0x00 ∷ 0x00 ∷ 0xA2 ∷ []) gives 0x00)
+    ∷ (crc8_of (0x02 ∷ 0x1C ∷ 0xB8 ∷ 0x01 ∷ 0x00 ∷ 0x00 ∷ 0x00 ∷ 0xA2 ∷ []) gives 0x00)
     -- the check value of this CRC-16, of the digits 1 to 9
-    ∷ (crc16From 0 (0x31 ∷ 0x32 ∷ 0x33 ∷ 0x34 ∷ 0x35 ∷ 0x36 ∷ 0x37 ∷ 0x38 ∷ 0x39 ∷ []) gives 0xBB3D)
+    ∷ (crc16_from 0 (0x31 ∷ 0x32 ∷ 0x33 ∷ 0x34 ∷ 0x35 ∷ 0x36 ∷ 0x37 ∷ 0x38 ∷ 0x39 ∷ []) gives 0xBB3D)
     ∷ []
 
-pub crcRows-hold : Hold crcRows
-unfolding crcRows crcBytes crcByte crcBits crcBit bits_of
-crcRows-hold = refl
+pub crc_rows-hold : Hold crc_rows
+unfolding crc_rows crc_bytes crc_byte crc_bits crc_bit bits_of
+crc_rows-hold = refl

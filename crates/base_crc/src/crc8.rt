@@ -1,10 +1,10 @@
 // CRC-8, x^8 + x^5 + x^4 + 1. The register is cleared first, and is sent as it is.
 ghost use Rattle.std.specs.Prelude.{◌≡◌};
-ghost use Rattle.base_crc.specs.Crc.{crc8Bit, crc8Byte, crc8From, crc8Of};
+ghost use Rattle.base_crc.specs.Crc.{crc8_bit, crc8_byte, crc8_from, crc8_of};
 
 // The register after one more bit.
 pub fn bit(reg: u8, bit: bool) -> u8
-    ensures { result ≡ crc8Bit reg bit }
+    ensures { result ≡ crc8_bit reg bit }
 {
     if (reg & 1 == 1) == bit {
         reg >> 1
@@ -15,7 +15,7 @@ pub fn bit(reg: u8, bit: bool) -> u8
 
 // The register after one more byte.
 pub fn byte(reg: u8, byte: u8) -> u8
-    ensures { result ≡ crc8Byte reg byte }
+    ensures { result ≡ crc8_byte reg byte }
 {
     let mut r = reg;
     let mut b = byte;
@@ -30,7 +30,7 @@ pub fn byte(reg: u8, byte: u8) -> u8
 
 // The register after so many more bytes.
 pub fn run(reg: u8, bytes: &[u8]) -> u8
-    ensures { result ≡ crc8From reg bytes.now }
+    ensures { result ≡ crc8_from reg bytes.now }
 {
     let mut r = reg;
     let mut i = 0;
@@ -43,7 +43,7 @@ pub fn run(reg: u8, bytes: &[u8]) -> u8
 
 // The register after the bytes, from a cleared one.
 pub fn of(bytes: &[u8]) -> u8
-    ensures { result ≡ crc8Of bytes.now }
+    ensures { result ≡ crc8_of bytes.now }
 {
     run(0, bytes)
 }

@@ -9,7 +9,7 @@ use lib.Signed.{mag, lt_z, le_z, non_neg}
 use mir.Syntax.{w32}
 use mir.Val.{SFits}
 use borrow.Author.Tests.{ltb-true, ltb-false, leb-true, lt-ltb, le-ltb, le-leb, lt-leb}
-use Rattle.base_tenths.specs.Tenths.{signed_of, lowBits, is_value}
+use Rattle.base_tenths.specs.Tenths.{signed_of, low_bits, is_value}
 
 -- a difference of two naturals, by which is less
 sub-bound : (a b : ℕ) (t : Bool) → ltb a b ≡ t → (k : ℕ) → (b ≤ suc (a + k)) → (a ≤ b + k) → mag (cond t (negsuc (b - suc a)) (pos (a - b))) ≤ k
@@ -91,8 +91,8 @@ raised-mag (pos a) h = omega arith
 raised-mag (negsuc a) h = omega (arith, mag-sub 0x100000000 (suc a) 0x100000000 (omega arith) (omega arith))
 
 -- the low sixteen bits by the sign, and back
-pub low-back : (v : ℤ) → mag v ≤ 1799 → signed_of (lowBits v) ≡ v
-unfolding lowBits signed_of
+pub low-back : (v : ℤ) → mag v ≤ 1799 → signed_of (low_bits v) ≡ v
+unfolding low_bits signed_of
 low-back (pos a) h =
     let x : (a + 0x100000000) % 0x10000 ≡ a = omega arith in
     rw x (simp (lt-ltb a 0x8000 (omega arith)))

@@ -10,7 +10,7 @@ use mir.Syntax.{w16}
 use mir.Val.{to_z}
 use borrow.Author.Tests.{ltb-true, ltb-false, lt-ltb}
 use Rattle.base_types.specs.Outcome.{accepted, judge}
-use Rattle.base_tenths.specs.Tenths.{signed_of, least, greatest, is_value, Folds, fold_of, changeAnswer, TenthsLaws}
+use Rattle.base_tenths.specs.Tenths.{signed_of, least, greatest, is_value, Folds, fold_of, change_answer, TenthsLaws}
 use Rattle.base_tenths.proofs.Integers.{mag-sub, not-lt-le, value-mag, mag-value, difference-mag, low-back}
 
 two's-complement : (x : ℕ) → x < 0x10000 → signed_of x ≡ to_z w16 x
@@ -41,8 +41,8 @@ fold-folds x h = go (lt_z x least) (lt_z greatest x) refl refl
     go false true e f = record { turns = pos 1; congruent = sym (-ℤ-+ℤ_cancel x (pos 3600)); within = down-within x h f }
     go false false e f = record { turns = pos 0; congruent = sym (+ℤ_idr x); within = simp (not-lt-le x least e, not-lt-le greatest x f) }
 
-pub folds : (old new d : ℤ) → changeAnswer old new ≡ accepted d → Folds (new -ℤ old) d
-unfolding changeAnswer
+pub folds : (old new d : ℤ) → change_answer old new ≡ accepted d → Folds (new -ℤ old) d
+unfolding change_answer
 folds old new d told = go (is_value old) (is_value new) refl refl told
   where
     go : (t u : Bool) → is_value old ≡ t → is_value new ≡ u → judge (t && u) 19 (accepted (fold_of (new -ℤ old))) ≡ accepted d → Folds (new -ℤ old) d

@@ -18,8 +18,8 @@ unfoldable pub signed_of : ℕ → ℤ
 signed_of x = cond (ltb x 0x8000) (pos x) (pos x -ℤ pos 0x10000)
 
 -- the other way: the low sixteen bits of a number of thirty-two, a negative one being 2 ^ 32 more
-unfoldable pub lowBits : ℤ → ℕ
-lowBits v = nat_abs (v +ℤ pos 0x100000000) % 0x10000
+unfoldable pub low_bits : ℤ → ℕ
+low_bits v = nat_abs (v +ℤ pos 0x100000000) % 0x10000
 
 -- ---- values
 
@@ -46,20 +46,20 @@ pub record Folds (x d : ℤ) : Type 0 where
 unfoldable pub fold_of : ℤ → ℤ
 fold_of x = cond (lt_z x least) (x +ℤ pos 3600) (cond (lt_z greatest x) (x -ℤ pos 3600) x)
 
-abbrev pub tenthsOutcome : Tenths → Outcome ℤ
-tenthsOutcome (Refused r) = refusing r
-tenthsOutcome (OutcomeTenths v) = accepted v
+abbrev pub tenths_outcome : Tenths → Outcome ℤ
+tenths_outcome (Refused r) = refusing r
+tenths_outcome (OutcomeTenths v) = accepted v
 
 -- 19 where either is no value, or new less old, folded
-unfoldable pub changeAnswer : ℤ → ℤ → Outcome ℤ
-changeAnswer old new = judge (is_value old && is_value new) 19 (accepted (fold_of (new -ℤ old)))
+unfoldable pub change_answer : ℤ → ℤ → Outcome ℤ
+change_answer old new = judge (is_value old && is_value new) 19 (accepted (fold_of (new -ℤ old)))
 
 pub record TenthsLaws : Type 0 where
   -- two bytes are read as the kit reads sixteen bits
   pub two's-complement : (x : ℕ) → x < 0x10000 → signed_of x ≡ to_z w16 x
   -- the low sixteen bits of a value stand for it
-  pub back : (v : ℤ) → is_value v ≡ true → signed_of (lowBits v) ≡ v
+  pub back : (v : ℤ) → is_value v ≡ true → signed_of (low_bits v) ≡ v
   -- the change told is new less old, brought into the range of values by whole turns ..
-  pub folds : (old new d : ℤ) → changeAnswer old new ≡ accepted d → Folds (new -ℤ old) d
+  pub folds : (old new d : ℤ) → change_answer old new ≡ accepted d → Folds (new -ℤ old) d
   -- .. and no other number is
   pub one : (x d e : ℤ) → Folds x d → Folds x e → d ≡ e

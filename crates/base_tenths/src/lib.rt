@@ -1,7 +1,7 @@
 // Signed tenths of a degree: decoded from two bytes, judged, and the change from one to another.
 ghost use Rattle.std.specs.Prelude.{◌≡◌, ℤ, ◌-ℤ◌};
 ghost use Rattle.base_types.specs.Outcome.{accepted};
-ghost use Rattle.base_tenths.specs.Tenths.{word_of, signed_of, lowBits, is_value, Folds, fold_of, tenthsOutcome, changeAnswer};
+ghost use Rattle.base_tenths.specs.Tenths.{word_of, signed_of, low_bits, is_value, Folds, fold_of, tenths_outcome, change_answer};
 
 use base_types::refusal::Refusal;
 
@@ -32,7 +32,7 @@ pub fn signed_of(x: u16) -> i32
 
 // The low sixteen bits of a number.
 pub fn low_bits(v: i32) -> u16
-    ensures { result ≡ lowBits v }
+    ensures { result ≡ low_bits v }
 {
     ((v as i64 + 0x1_0000_0000) as u64 % 0x10000) as u16
 }
@@ -62,8 +62,8 @@ pub fn fold(difference: i32) -> i32
 
 // The change from an old value to a new one. Refused: 19.
 pub fn change(old: i32, new: i32) -> Tenths
-    ensures answer { tenthsOutcome result ≡ changeAnswer old new }
-    ensures turns { (d : ℤ) → tenthsOutcome result ≡ accepted d → Folds (new -ℤ old) d }
+    ensures answer { tenths_outcome result ≡ change_answer old new }
+    ensures turns { (d : ℤ) → tenths_outcome result ≡ accepted d → Folds (new -ℤ old) d }
 {
     if !is_value(old) {
         return Tenths::Refused(Refusal::NoValue);

@@ -4,10 +4,10 @@ use Rattle.base_types.specs.declared.refusal.Refusal.{Refusal}
 use Rattle.base_types.specs.declared.refusal.Refusal.TheVariants.{ImageLength, StateRange, PageNumber, Loop, Outside, Crc16, ReadBack, NoFreePage}
 use Rattle.base_types.specs.declared.refusal.Refusal.TheVariants.{RedirectionProtected, BufferLength, Sheet, NoPresence, Crc8, Family, Header, Latitude}
 use Rattle.base_types.specs.declared.refusal.Refusal.TheVariants.{Column, NoValue, DataProtected}
-use Rattle.base_types.specs.Refusal.{number_of, values_of, refusalOf, RefusalLaws}
+use Rattle.base_types.specs.Refusal.{number_of, values_of, refusal_of, RefusalLaws}
 
-back : (r : Refusal) → refusalOf (number_of r) (values_of r) ≡ r
-unfolding refusalOf
+back : (r : Refusal) → refusal_of (number_of r) (values_of r) ≡ r
+unfolding refusal_of
 back ImageLength = refl
 back StateRange = refl
 back PageNumber = refl
@@ -29,4 +29,4 @@ back NoValue = refl
 back (DataProtected l) = refl
 
 pub refusal-laws : RefusalLaws
-refusal-laws = record { back = back; same = λ r s e v. sym (back r) ∙ ap₂ refusalOf e v ∙ back s }
+refusal-laws = record { back = back; same = λ r s e v. sym (back r) ∙ ap₂ refusal_of e v ∙ back s }

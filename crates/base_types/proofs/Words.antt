@@ -10,17 +10,17 @@ use lib.Arith.{mod-mul}
 use lib.Dec.{eqb, lit<}
 use lib.ListN.{length, length-append}
 use lib.Pow.{pow_pos, shr-shr}
-use Rattle.base_types.specs.Bits.{odd, bits_of, bitsOfBytes}
+use Rattle.base_types.specs.Bits.{odd, bits_of, bits_of_bytes}
 
 pub bits-length : (k x : ℕ) → length (bits_of k x) ≡ k
 unfolding bits_of
 bits-length zero x = refl
 bits-length (suc k) x = ap suc (bits-length k (x / 2))
 
-pub bytes-length : (bytes : List ℕ) → length (bitsOfBytes bytes) ≡ 8 * length bytes
-unfolding bitsOfBytes
+pub bytes-length : (bytes : List ℕ) → length (bits_of_bytes bytes) ≡ 8 * length bytes
+unfolding bits_of_bytes
 bytes-length [] = refl
-bytes-length (b ∷ bs) = omega (arith, length-append (bits_of 8 b) (bitsOfBytes bs), bits-length 8 b, bytes-length bs)
+bytes-length (b ∷ bs) = omega (arith, length-append (bits_of 8 b) (bits_of_bytes bs), bits-length 8 b, bytes-length bs)
 
 -- only the n low bits of x count
 pub bits-low : (n x : ℕ) → bits_of n (x % 2 ^ n) ≡ bits_of n x

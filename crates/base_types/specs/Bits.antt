@@ -20,13 +20,13 @@ bits_of zero x = []
 bits_of (suc n) x = odd x ∷ bits_of n (x / 2)
 
 -- the bits of bytes, one byte after the other
-unfoldable pub bitsOfBytes : List ℕ → List Bool
-bitsOfBytes [] = []
-bitsOfBytes (b ∷ bs) = bits_of 8 b ++ bitsOfBytes bs
+unfoldable pub bits_of_bytes : List ℕ → List Bool
+bits_of_bytes [] = []
+bits_of_bytes (b ∷ bs) = bits_of 8 b ++ bits_of_bytes bs
 
 -- the register that collects a byte: it shifts right, and the new bit comes in on top
-abbrev pub shiftIn : ℕ → Bool → ℕ
-shiftIn register bit = register / 2 + 128 * one bit
+abbrev pub shift_in : ℕ → Bool → ℕ
+shift_in register bit = register / 2 + 128 * one bit
 
 -- two bits agree
 abbrev pub same : Bool → Bool → Bool

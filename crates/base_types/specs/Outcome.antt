@@ -23,14 +23,14 @@ judge false number rest = refused number []
 pub data Done : Type 0 where
   done : Done
 
-abbrev pub judgedOutcome : Judged → Outcome Done
-judgedOutcome (Refused r) = refusing r
-judgedOutcome Accepted = accepted done
+abbrev pub judged_outcome : Judged → Outcome Done
+judged_outcome (Refused r) = refusing r
+judged_outcome Accepted = accepted done
 
 -- a buffer or a state: the new one where the answer is not refused, and else the old one
-abbrev pub unlessRefused : {A B : Type 0} → Outcome A → B → B → B
-unlessRefused (accepted a) new old = new
-unlessRefused (refused k vs) new old = old
+abbrev pub unless_refused : {A B : Type 0} → Outcome A → B → B → B
+unless_refused (accepted a) new old = new
+unless_refused (refused k vs) new old = old
 
 -- what is told next, where the answer is not refused
 abbrev pub following : {A B : Type 0} → Outcome A → Outcome B → Outcome B
@@ -39,5 +39,5 @@ following (refused k vs) rest = refused k vs
 
 -- The order of every entry that judges these: 1 for an image of another length, 2 for a state or a byte outside its range, 10 for any
 -- other buffer of a wrong length. All other refusals come after them.
-abbrev pub inOrder : Bool → Bool → Bool → Outcome Done
-inOrder image ranges lengths = judge image 1 (judge ranges 2 (judge lengths 10 (accepted done)))
+abbrev pub in_order : Bool → Bool → Bool → Outcome Done
+in_order image ranges lengths = judge image 1 (judge ranges 2 (judge lengths 10 (accepted done)))

@@ -37,19 +37,19 @@ numbered NoValue = plain 19
 numbered (DataProtected l) = giving 20 l.0
 
 -- what the code's enum of given values tells
-abbrev pub givenValues : Given → List ℕ
-givenValues Nothing = []
-givenValues (One v) = v ∷ []
+abbrev pub given_values : Given → List ℕ
+given_values Nothing = []
+given_values (One v) = v ∷ []
 
 abbrev pub number_of : Refusal → ℕ
 number_of r = (numbered r).0
 
 abbrev pub values_of : Refusal → List ℕ
-values_of r = givenValues (numbered r).1
+values_of r = given_values (numbered r).1
 
 -- the other way: the refusal of a number, with its values
-unfoldable pub refusalOf : ℕ → List ℕ → Refusal
-refusalOf k values =
+unfoldable pub refusal_of : ℕ → List ℕ → Refusal
+refusal_of k values =
     cond (eqb k 1) ImageLength
     (cond (eqb k 2) StateRange
     (cond (eqb k 3) PageNumber
@@ -72,5 +72,5 @@ refusalOf k values =
 
 -- a refusal is read back from its number and values, so these determine it
 pub record RefusalLaws : Type 0 where
-  pub back : (r : Refusal) → refusalOf (number_of r) (values_of r) ≡ r
+  pub back : (r : Refusal) → refusal_of (number_of r) (values_of r) ≡ r
   pub same : (r s : Refusal) → number_of r ≡ number_of s → values_of r ≡ values_of s → r ≡ s

@@ -12,6 +12,6 @@ count t zero q = 0
 count t (suc k) q = let rest : ℕ = count t k (q + 1) in cond (t q) (rest + 1) rest
 
 -- the values of f at the n numbers from k on
-unfoldable pub valuesFrom : (ℕ → ℕ) → ℕ → ℕ → List ℕ
-valuesFrom f k zero = []
-valuesFrom f k (suc n) = f k ∷ valuesFrom f (k + 1) n
+unfoldable pub values_from : (ℕ → ℕ) → ℕ → ℕ → List ℕ
+values_from f k zero = []
+values_from f k (suc n) = f k ∷ values_from f (k + 1) n

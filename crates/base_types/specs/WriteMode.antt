@@ -6,8 +6,8 @@ use Rattle.base_types.specs.declared.write_mode.WriteMode.{WriteMode}
 use Rattle.base_types.specs.declared.write_mode.WriteMode.TheVariants.{Ordinary, Quick}
 
 -- Write Memory, Write Status, Speed Write Memory, Speed Write Status
-abbrev pub writeCommand : WriteMode → Space → ℕ
-writeCommand Ordinary Data = 0x0F
-writeCommand Ordinary Status = 0x55
-writeCommand Quick Data = 0xF3
-writeCommand Quick Status = 0xF5
+abbrev pub write_command : WriteMode → Space → ℕ
+write_command Ordinary Data = 0x0F
+write_command Ordinary Status = 0x55
+write_command Quick Data = 0xF3
+write_command Quick Status = 0xF5

@@ -1,6 +1,6 @@
 // The bits of a number, by shift and mask. All bytes go least significant bit first.
 ghost use Rattle.std.specs.Prelude.{◌&&◌, ◌≡◌, ◌%◌};
-ghost use Rattle.base_types.specs.Bits.{one, odd, bit_at, shiftIn, same};
+ghost use Rattle.base_types.specs.Bits.{one, odd, bit_at, shift_in, same};
 
 // A bit as a byte.
 pub fn byte(bit: bool) -> u8
@@ -25,7 +25,7 @@ pub fn at(x: u8, k: u8) -> bool
 
 // The register that collects a byte: it shifts right, and the new bit comes in on top.
 pub fn shift_in(register: u8, bit: bool) -> u8
-    ensures { result ≡ shiftIn register bit }
+    ensures { result ≡ shift_in register bit }
 {
     if bit {
         (register >> 1) | 0x80

@@ -1,6 +1,6 @@
 ghost use Rattle.std.specs.Prelude.{◌≡◌};
-ghost use Rattle.base_types.specs.Refusal.{numbered, number_of, values_of, givenValues};
-ghost use Rattle.base_types.specs.Outcome.{judgedOutcome, inOrder};
+ghost use Rattle.base_types.specs.Refusal.{numbered, number_of, values_of, given_values};
+ghost use Rattle.base_types.specs.Outcome.{judged_outcome, in_order};
 
 use crate::address::Page;
 
@@ -82,7 +82,7 @@ pub fn number(refusal: Refusal) -> u8
 
 // What a refusal gives back.
 pub fn given_back(refusal: Refusal) -> Given
-    ensures { givenValues result ≡ values_of refusal }
+    ensures { given_values result ≡ values_of refusal }
 {
     let row = table(refusal);
     row.1
@@ -90,7 +90,7 @@ pub fn given_back(refusal: Refusal) -> Given
 
 // The order of every entry that judges these: the image's length, ranges, the lengths of other buffers. Refused: 1, 2, 10.
 pub fn in_order(image: bool, ranges: bool, lengths: bool) -> Judged
-    ensures { judgedOutcome result ≡ inOrder image ranges lengths }
+    ensures { judged_outcome result ≡ in_order image ranges lengths }
 {
     if !image {
         return Judged::Refused(Refusal::ImageLength);

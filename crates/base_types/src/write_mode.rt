@@ -1,6 +1,6 @@
 // The two modes of a write, and the command byte of each.
 ghost use Rattle.std.specs.Prelude.{◌≡◌};
-ghost use Rattle.base_types.specs.WriteMode.{writeCommand};
+ghost use Rattle.base_types.specs.WriteMode.{write_command};
 
 use crate::address::Space;
 
@@ -13,7 +13,7 @@ pub enum WriteMode {
 
 // The command byte that writes a memory.
 pub fn command(mode: WriteMode, space: Space) -> u8
-    ensures { result ≡ writeCommand mode space }
+    ensures { result ≡ write_command mode space }
 {
     match mode {
         WriteMode::Ordinary => match space {

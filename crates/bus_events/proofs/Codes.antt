@@ -3,16 +3,16 @@ use mathlib.Core.Path.{◌≡◌, refl}
 use mathlib.Core.Bool.{true, false}
 use Rattle.bus_events.specs.declared.Event.{Event}
 use Rattle.bus_events.specs.declared.Event.TheVariants.{Reset, Slot, Pulse, PowerLoss}
-use Rattle.bus_events.specs.Codes.{code_of, isEvent, eventOf, CodeLaws}
+use Rattle.bus_events.specs.Codes.{code_of, is_event, event_of, CodeLaws}
 
-coded : (e : Event) → isEvent (code_of e) ≡ true
+coded : (e : Event) → is_event (code_of e) ≡ true
 coded (Slot true) = refl
 coded (Slot false) = refl
 coded Reset = refl
 coded Pulse = refl
 coded PowerLoss = refl
 
-event-back : (e : Event) → eventOf (code_of e) ≡ e
+event-back : (e : Event) → event_of (code_of e) ≡ e
 event-back (Slot true) = refl
 event-back (Slot false) = refl
 event-back Reset = refl

@@ -17,5 +17,5 @@ read_slot = slot true
 abbrev pub pulse : Event
 pulse = Pulse
 
-abbrev pub powerLoss : Event
-powerLoss = PowerLoss
+abbrev pub power_loss : Event
+power_loss = PowerLoss

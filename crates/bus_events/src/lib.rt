@@ -1,6 +1,6 @@
 // What can happen on the bus, and each event as a byte.
 ghost use Rattle.std.specs.Prelude.{◌≡◌};
-ghost use Rattle.bus_events.specs.Codes.{code_of, eventOf, isEvent};
+ghost use Rattle.bus_events.specs.Codes.{code_of, event_of, is_event};
 ghost use Rattle.bus_events.specs.Events as named;
 
 use base_types::bits;
@@ -55,14 +55,14 @@ pub fn code_of(event: Event) -> u8
 
 // A byte is that of an event.
 pub fn is_event(code: u8) -> bool
-    ensures { result ≡ isEvent code }
+    ensures { result ≡ is_event code }
 {
     code < 5
 }
 
 // The event of a byte; a byte that is that of none counts as a power loss.
 pub fn event_of(code: u8) -> Event
-    ensures { result ≡ eventOf code }
+    ensures { result ≡ event_of code }
 {
     match code {
         0 => Event::Slot(false),

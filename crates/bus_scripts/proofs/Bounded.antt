@@ -9,8 +9,8 @@ use lib.ListN.{length}
 use Rattle.base_types.specs.Bits.{one}
 use Rattle.bus_events.specs.declared.Event.{Event}
 use Rattle.bus_events.specs.Events as bus
-use Rattle.bus_scripts.specs.Next.{eventsOf}
-use Rattle.bus_scripts.specs.Script.{Script, stops, gives, sends, checkWith, check, reset, sendBits, readBits, readBytes, readCrc, play}
+use Rattle.bus_scripts.specs.Next.{events_of}
+use Rattle.bus_scripts.specs.Script.{Script, stops, gives, sends, check_with, check, reset, send_bits, read_bits, read_bytes, read_crc, play}
 use Rattle.bus_scripts.proofs.Ended.{end-events}
 
 -- no more than so many, each with a property
@@ -26,15 +26,15 @@ Each P (e ∷ es) = P e × Each P es
 
 module _ {P : Event → Type 0} where
   told-bounded : {k : ℕ} {script : Script} (first : Bool) (rs : List Bool) → Bounded P k script
-      → (length (eventsOf (play script (first ∷ rs))) ≤ k) × Each P (eventsOf (play script (first ∷ rs)))
-  unfolding eventsOf
+      → (length (events_of (play script (first ∷ rs))) ≤ k) × Each P (events_of (play script (first ∷ rs)))
+  unfolding events_of
   told-bounded first rs (stopping {number = number} {values = values}) = rw (end-events (stops number values) refl first rs) (omega arith, tt)
   told-bounded first rs (giving {values = values} {bytes = bytes}) = rw (end-events (gives values bytes) refl first rs) (omega arith, tt)
   told-bounded first [] (sending p h) = (omega arith, (p, tt))
   told-bounded first (r ∷ rs) (sending p h) = let m = told-bounded r rs (h r) in (omega (arith, m.0), (p, m.1))
 
-  pub bounded : {k : ℕ} {script : Script} (replies : List Bool) → Bounded P k script → (length (eventsOf (play script replies)) ≤ k) × Each P (eventsOf (play script replies))
-  unfolding eventsOf
+  pub bounded : {k : ℕ} {script : Script} (replies : List Bool) → Bounded P k script → (length (events_of (play script replies)) ≤ k) × Each P (events_of (play script replies))
+  unfolding events_of
   bounded [] h = (omega arith, tt)
   bounded (r ∷ rs) h = told-bounded r rs h
 
@@ -46,7 +46,7 @@ module _ {P : Event → Type 0} where
   more-bounded zero l (sending p h) = absurd (let z : ⊥ = omega arith in z)
   more-bounded (suc k) l (sending p h) = sending p (λ r. more-bounded k (omega arith) (h r))
 
-  pub check-bounded : {k : ℕ} (test : Bool) (number : ℕ) (values : List ℕ) {on : Script} → Bounded P k on → Bounded P k (checkWith test number values on)
+  pub check-bounded : {k : ℕ} (test : Bool) (number : ℕ) (values : List ℕ) {on : Script} → Bounded P k on → Bounded P k (check_with test number values on)
   check-bounded true number values h = h
   check-bounded false number values h = stopping
 
@@ -54,24 +54,24 @@ module _ {P : Event → Type 0} where
   reset-bounded p h = sending p (λ r. check-bounded (not r) 13 [] h)
 
   module _ (slot : (bit : Bool) → P (bus.slot bit)) where
-    pub send-bounded : (bits : List Bool) {j : ℕ} {on : Script} (k : ℕ) → length bits + j ≤ k → Bounded P j on → Bounded P k (sendBits bits on)
-    unfolding sendBits
+    pub send-bounded : (bits : List Bool) {j : ℕ} {on : Script} (k : ℕ) → length bits + j ≤ k → Bounded P j on → Bounded P k (send_bits bits on)
+    unfolding send_bits
     send-bounded [] k l h = more-bounded k (omega arith) h
     send-bounded (b ∷ bits) zero l h = absurd (let z : ⊥ = omega arith in z)
     send-bounded (b ∷ bits) (suc k) l h = sending (slot b) (λ r. send-bounded bits k (omega arith) h)
 
-    pub read-bounded : (width : ℕ) (on : ℕ → Script) {j : ℕ} (k : ℕ) → width + j ≤ k → ((v : ℕ) → Bounded P j (on v)) → Bounded P k (readBits width on)
-    unfolding readBits
+    pub read-bounded : (width : ℕ) (on : ℕ → Script) {j : ℕ} (k : ℕ) → width + j ≤ k → ((v : ℕ) → Bounded P j (on v)) → Bounded P k (read_bits width on)
+    unfolding read_bits
     read-bounded zero on k l h = more-bounded k (omega arith) (h 0)
     read-bounded (suc width) on zero l h = absurd (let z : ⊥ = omega arith in z)
     read-bounded (suc width) on (suc k) l h = sending (slot true) (λ r. read-bounded width (λ rest. on (one r + 2 * rest)) k (omega arith) (λ v. h (one r + 2 * v)))
 
-    pub bytes-bounded : (count : ℕ) (on : List ℕ → Script) {j : ℕ} (k : ℕ) → 8 * count + j ≤ k → ((bytes : List ℕ) → Bounded P j (on bytes)) → Bounded P k (readBytes count on)
-    unfolding readBytes
+    pub bytes-bounded : (count : ℕ) (on : List ℕ → Script) {j : ℕ} (k : ℕ) → 8 * count + j ≤ k → ((bytes : List ℕ) → Bounded P j (on bytes)) → Bounded P k (read_bytes count on)
+    unfolding read_bytes
     bytes-bounded zero on k l h = more-bounded k (omega arith) (h [])
     bytes-bounded (suc count) on {j} k l h =
-        read-bounded 8 (λ byte. readBytes count (λ more. on (byte ∷ more))) k (omega arith)
+        read-bounded 8 (λ byte. read_bytes count (λ more. on (byte ∷ more))) k (omega arith)
         (λ byte. bytes-bounded count (λ more. on (byte ∷ more)) (8 * count + j) (omega arith) (λ bytes. h (byte ∷ bytes)))
 
-    pub crc-bounded : (crc : ℕ) {j : ℕ} {on : Script} (k : ℕ) → 16 + j ≤ k → Bounded P j on → Bounded P k (readCrc crc on)
+    pub crc-bounded : (crc : ℕ) {j : ℕ} {on : Script} (k : ℕ) → 16 + j ≤ k → Bounded P j on → Bounded P k (read_crc crc on)
     crc-bounded crc {j} {on} k l h = read-bounded 16 (λ got. check (eqb got crc) 6 on) k l (λ got. check-bounded (eqb got crc) 6 [] h)

@@ -8,54 +8,54 @@ use lib.ListN.{length, replicate}
 use Rattle.base_types.specs.Outcome.{Outcome, refused, accepted}
 use Rattle.bus_events.specs.declared.Event.{Event}
 use Rattle.bus_scripts.specs.Joint.{Out, event, quiet}
-use Rattle.bus_scripts.specs.Next.{Next, send, tells, out_of, eventsOf}
-use Rattle.bus_scripts.specs.Script.{Script, stops, gives, sends, outcomeAt, follow, playFrom, play, leftIn, leftBy}
+use Rattle.bus_scripts.specs.Next.{Next, send, tells, out_of, events_of}
+use Rattle.bus_scripts.specs.Script.{Script, stops, gives, sends, outcome_at, follow, play_from, play, left_in, left_by}
 use Rattle.bus_scripts.proofs.Runs.{Runs, stopped, given, sent}
 
 -- ---- an end repeats, and leaves a buffer as it is
 
 -- no event comes of it: the script has stopped, or gives its result
 abbrev Ends : Script → Type 0
-Ends script = out_of (outcomeAt script) ≡ quiet
+Ends script = out_of (outcome_at script) ≡ quiet
 
-repeats : (script : Script) → Ends script → (rs : List Bool) → playFrom (follow script) rs ≡ replicate (length rs) (outcomeAt script)
+repeats : (script : Script) → Ends script → (rs : List Bool) → play_from (follow script) rs ≡ replicate (length rs) (outcome_at script)
 repeats script q [] = refl
 repeats (stops number values) q (r ∷ rs) = ap (λ (l : List (Outcome Next)). refused number values ∷ l) (repeats (stops number values) q rs)
 repeats (gives values bytes) q (r ∷ rs) = ap (λ (l : List (Outcome Next)). accepted (tells values) ∷ l) (repeats (gives values []) q rs)
 repeats (sends e on) q (r ∷ rs) = let z : ◌≡◌ {A = ℕ} 0 1 = cc in absurd (omega arith)
 
-keeps-buffer : (script : Script) → Ends script → (rs : List Bool) (lent : List ℕ) → leftBy (follow script) rs lent ≡ lent
+keeps-buffer : (script : Script) → Ends script → (rs : List Bool) (lent : List ℕ) → left_by (follow script) rs lent ≡ lent
 keeps-buffer script q [] lent = refl
 keeps-buffer (stops number values) q (r ∷ rs) lent = keeps-buffer (stops number values) q rs lent
 keeps-buffer (gives values bytes) q (r ∷ rs) lent = keeps-buffer (gives values []) q rs lent
 keeps-buffer (sends e on) q (r ∷ rs) lent = let z : ◌≡◌ {A = ℕ} 0 1 = cc in absurd (omega arith)
 
-quiet-events : (k : ℕ) (x : Outcome Next) → out_of x ≡ quiet → eventsOf (replicate k x) ≡ []
-unfolding eventsOf
+quiet-events : (k : ℕ) (x : Outcome Next) → out_of x ≡ quiet → events_of (replicate k x) ≡ []
+unfolding events_of
 quiet-events zero x q = refl
 quiet-events (suc k) (refused number values) q = quiet-events k (refused number values) q
 quiet-events (suc k) (accepted (tells values)) q = quiet-events k (accepted (tells values)) q
 quiet-events (suc k) (accepted (send e)) q = let z : ◌≡◌ {A = ℕ} 0 1 = cc in absurd (omega arith)
 
-pub end-repeats : (script : Script) → Ends script → (first : Bool) (rs : List Bool) → play script (first ∷ rs) ≡ replicate (suc (length rs)) (outcomeAt script)
-end-repeats script q first rs = ap (λ (l : List (Outcome Next)). outcomeAt script ∷ l) (repeats script q rs)
+pub end-repeats : (script : Script) → Ends script → (first : Bool) (rs : List Bool) → play script (first ∷ rs) ≡ replicate (suc (length rs)) (outcome_at script)
+end-repeats script q first rs = ap (λ (l : List (Outcome Next)). outcome_at script ∷ l) (repeats script q rs)
 
-pub end-events : (script : Script) → Ends script → (first : Bool) (rs : List Bool) → eventsOf (play script (first ∷ rs)) ≡ []
-end-events script q first rs = ap eventsOf (end-repeats script q first rs) ∙ quiet-events (suc (length rs)) (outcomeAt script) q
+pub end-events : (script : Script) → Ends script → (first : Bool) (rs : List Bool) → events_of (play script (first ∷ rs)) ≡ []
+end-events script q first rs = ap events_of (end-repeats script q first rs) ∙ quiet-events (suc (length rs)) (outcome_at script) q
 
 -- ---- a whole run: its events, and what it leaves in a buffer, however many calls come after it
 
 pub runs-events : {script : Script} {used : List Bool} {es : List Event} {told : Outcome Next} {bytes : List ℕ} (first : Bool) (rest : List Bool) → Runs script used es told bytes
-    → eventsOf (play script (first ∷ (used ++ rest))) ≡ es
-unfolding eventsOf
+    → events_of (play script (first ∷ (used ++ rest))) ≡ es
+unfolding events_of
 runs-events first rest (stopped {number = number} {values = values}) = end-events (stops number values) refl first rest
 runs-events first rest (given {values = values} {bytes = bytes}) = end-events (gives values bytes) refl first rest
 runs-events first rest (sent {e = e} {r = r} h) = ap (λ (l : List Event). e ∷ l) (runs-events r rest h)
 
 pub runs-left : {script : Script} {used : List Bool} {es : List Event} {told : Outcome Next} {bytes : List ℕ} (first : Bool) (rest : List Bool) (lent : List ℕ)
-    → Runs script used es told bytes → leftBy (λ first. script) (first ∷ (used ++ rest)) lent ≡ leftIn bytes lent
+    → Runs script used es told bytes → left_by (λ first. script) (first ∷ (used ++ rest)) lent ≡ left_in bytes lent
 runs-left first rest lent (stopped {number = number} {values = values}) = keeps-buffer (stops number values) refl rest lent
-runs-left first rest lent (given {values = values} {bytes = bytes}) = keeps-buffer (gives values bytes) refl rest (leftIn bytes lent)
+runs-left first rest lent (given {values = values} {bytes = bytes}) = keeps-buffer (gives values bytes) refl rest (left_in bytes lent)
 runs-left first rest lent (sent {r = r} h) = runs-left r rest lent h
 
 -- ---- an end that was told

@@ -16,7 +16,7 @@ use Rattle.base_types.proofs.Values.{value_of}
 use Rattle.bus_events.specs.Events as bus
 use Rattle.bus_scripts.specs.Joint.{answers}
 use Rattle.bus_scripts.specs.Next.{Next, send, tells}
-use Rattle.bus_scripts.specs.Script.{Script, stops, gives, sends, checkWith, reset, readBits, readByte, readBytes, outcomeAt, handedAt, follow, playFrom}
+use Rattle.bus_scripts.specs.Script.{Script, stops, gives, sends, check_with, reset, read_bits, read_byte, read_bytes, outcome_at, handed_at, follow, play_from}
 
 pub data Follows {S : Type 0} (step : S → Bool → S) (show : S → Outcome Next) (hand : S → List ℕ) : S → Script → Type 0 where
   sending : {s : S} {event : Event} {on : Bool → Script} → show s ≡ accepted (send event) → hand s ≡ []
@@ -27,12 +27,12 @@ pub data Follows {S : Type 0} (step : S → Bool → S) (show : S → Outcome Ne
       → show t ≡ accepted (tells values) → hand t ≡ [] → ((r : Bool) → step t r ≡ t) → Follows step show hand s (gives values bytes)
 
 module _ {S : Type 0} {step : S → Bool → S} {show : S → Outcome Next} {hand : S → List ℕ} where
-  pub shown-is : {s : S} {script : Script} → Follows step show hand s script → show s ≡ outcomeAt script
+  pub shown-is : {s : S} {script : Script} → Follows step show hand s script → show s ≡ outcome_at script
   shown-is (sending a b c) = a
   shown-is (stopping a b c) = a
   shown-is (giving a b c d e f) = a
 
-  pub handed-is : {s : S} {script : Script} → Follows step show hand s script → hand s ≡ handedAt script
+  pub handed-is : {s : S} {script : Script} → Follows step show hand s script → hand s ≡ handed_at script
   handed-is (sending a b c) = b
   handed-is (stopping a b c) = b
   handed-is (giving a b c d e f) = b
@@ -53,7 +53,7 @@ module _ {S : Type 0} {step : S → Bool → S} {show : S → Outcome Next} {han
       go false = present
 
   pub checking : {X : Type 0} (at : X → S) (test : Bool) {x y : X} {on : Script} {number : ℕ} {values : List ℕ} → (test ≡ true → Follows step show hand (at x) on)
-      → (test ≡ false → Follows step show hand (at y) (stops number values)) → Follows step show hand (at (cond test x y)) (checkWith test number values on)
+      → (test ≡ false → Follows step show hand (at y) (stops number values)) → Follows step show hand (at (cond test x y)) (check_with test number values on)
   checking at true f g = f refl
   checking at false f g = g refl
 
@@ -62,32 +62,32 @@ module _ {S : Type 0} {step : S → Bool → S} {show : S → Outcome Next} {han
       (quiet : (left v : ℕ) → hand (at (suc left) v) ≡ []) (more : (left v : ℕ) (r : Bool) → step (at (suc (suc left)) v) r ≡ at (suc left) (v / 2 + top * one r))
       (last : (v : ℕ) (r : Bool) → step (at 1 v) r ≡ done (v / 2 + top * one r)) where
     pub receiving : (left v : ℕ) (on : ℕ → Script) → ((bs : List Bool) → length bs ≡ suc left → Follows step show hand (done (gathered top v bs)) (on (value_of bs)))
-        → Follows step show hand (at (suc left) v) (readBits (suc left) on)
-    unfolding readBits
+        → Follows step show hand (at (suc left) v) (read_bits (suc left) on)
+    unfolding read_bits
     receiving zero v on f =
         sending (out 0 v) (quiet 0 v) (λ r. subst (λ (s : S). Follows step show hand s (on (value_of (r ∷ [])))) (sym (last v r)) (f (r ∷ []) refl))
     receiving (suc left) v on f =
         sending (out (suc left) v) (quiet (suc left) v)
-        (λ r. subst (λ (s : S). Follows step show hand s (readBits (suc left) (λ rest. on (one r + 2 * rest)))) (sym (more left v r))
+        (λ r. subst (λ (s : S). Follows step show hand s (read_bits (suc left) (λ rest. on (one r + 2 * rest)))) (sym (more left v r))
         (receiving left (v / 2 + top * one r) (λ rest. on (one r + 2 * rest)) (λ bs l. f (r ∷ bs) (ap suc l))))
 
   -- bytes 0 to end, each into its place: at k bytes, byte k is awaited
   module _ (end : ℕ) (at : ℕ → List ℕ → S) (done : List ℕ → S)
       (more : (k : ℕ) (bytes : List ℕ) (on : ℕ → Script) → k < end → ((v : ℕ) → Follows step show hand (at (k + 1) (set bytes k v)) (on v))
-      → Follows step show hand (at k bytes) (readByte on))
-      (last : (bytes : List ℕ) (on : ℕ → Script) → ((v : ℕ) → Follows step show hand (done (set bytes end v)) (on v)) → Follows step show hand (at end bytes) (readByte on)) where
+      → Follows step show hand (at k bytes) (read_byte on))
+      (last : (bytes : List ℕ) (on : ℕ → Script) → ((v : ℕ) → Follows step show hand (done (set bytes end v)) (on v)) → Follows step show hand (at end bytes) (read_byte on)) where
     bytes-from : (m k : ℕ) (bytes : List ℕ) (on : List ℕ → Script) → k + m ≡ end
-        → ((ds : List ℕ) → length ds ≡ suc m → Follows step show hand (done (filled bytes k ds)) (on ds)) → Follows step show hand (at k bytes) (readBytes (suc m) on)
-    unfolding readBytes
+        → ((ds : List ℕ) → length ds ≡ suc m → Follows step show hand (done (filled bytes k ds)) (on ds)) → Follows step show hand (at k bytes) (read_bytes (suc m) on)
+    unfolding read_bytes
     bytes-from zero k bytes on l f =
         let e : k ≡ end = omega arith in
         rw e (last bytes (λ byte. on (byte ∷ [])) (λ v. rw e at (f (v ∷ []) refl)))
     bytes-from (suc m) k bytes on l f =
-        more k bytes (λ byte. readBytes (suc m) (λ rest. on (byte ∷ rest))) (omega arith)
+        more k bytes (λ byte. read_bytes (suc m) (λ rest. on (byte ∷ rest))) (omega arith)
         (λ v. bytes-from m (k + 1) (set bytes k v) (λ rest. on (v ∷ rest)) (omega arith) (λ ds e. f (v ∷ ds) (ap suc e)))
 
     pub receiving-bytes : (bytes : List ℕ) (on : List ℕ → Script) → length bytes ≡ suc end
-        → ((ds : List ℕ) → length ds ≡ suc end → Follows step show hand (done ds) (on ds)) → Follows step show hand (at 0 bytes) (readBytes (suc end) on)
+        → ((ds : List ℕ) → length ds ≡ suc end → Follows step show hand (done ds) (on ds)) → Follows step show hand (at 0 bytes) (read_bytes (suc end) on)
     receiving-bytes bytes on l f =
         bytes-from end 0 bytes on (zero-add end)
         (λ ds e. subst (λ (x : List ℕ). Follows step show hand (done x) (on ds)) (sym (filled_is ds bytes 0 (omega arith))) (f ds e))
@@ -98,7 +98,7 @@ module _ {S : Type 0} {step : S → Bool → S} {show : S → Outcome Next} {han
       (sees-step : (c : C) (s : S) (r : Bool) → Sees c s → Sees (call c r) (step s r))
       (told_is : (c : C) (s : S) (r : Bool) → Sees c s → told c r ≡ show (step s r)) where
     pub plays-from : (rs : List Bool) (c : C) (s : S) (on : Bool → Script) → Sees c s → ((r : Bool) → Follows step show hand (step s r) (on r))
-        → answers call told c rs ≡ playFrom on rs
+        → answers call told c rs ≡ play_from on rs
     plays-from [] c s on sees f = refl
     plays-from (r ∷ rs) c s on sees f =
         ap₂ (λ (a : Outcome Next) (l : List (Outcome Next)). a ∷ l) (told_is c s r sees ∙ shown-is (f r))

@@ -8,7 +8,7 @@ use native.Mathlib.Nat.{pow-succ'}
 use lib.Dec.{eqb}
 use lib.ListN.{length, get_or}
 use borrow.Author.Tests.{eq-eqb, eqb-true}
-use Rattle.base_types.specs.Bits.{one, odd, bits_of, bitsOfBytes}
+use Rattle.base_types.specs.Bits.{one, odd, bits_of, bits_of_bytes}
 use Rattle.base_types.specs.Outcome.{Outcome, refused, accepted}
 use Rattle.base_types.proofs.Values.{one-le, odd-of, one-odd}
 use Rattle.bus_events.specs.declared.Event.{Event}
@@ -17,7 +17,7 @@ use Rattle.bus_events.specs.Slots.{slots, reading}
 use Rattle.bus_events.proofs.Slots.{reading-add}
 use Rattle.bus_scripts.specs.Joint.{lines}
 use Rattle.bus_scripts.specs.Next.{Next, tells}
-use Rattle.bus_scripts.specs.Script.{Script, stops, gives, sends, checkWith, check, reset, sendBits, readBits, readBytes, readCrc, Played, playOn}
+use Rattle.bus_scripts.specs.Script.{Script, stops, gives, sends, check_with, check, reset, send_bits, read_bits, read_bytes, read_crc, Played, play_on}
 
 -- with these replies the script sends these events and comes to its end, which tells this and hands these bytes over
 pub data Runs : Script → List Bool → List Event → Outcome Next → List ℕ → Type 0 where
@@ -55,15 +55,15 @@ pub ◌and-then◌ : {a b c : Script} {front more : List Bool} {out far : List E
 pub reset_runs : {on : Script} → Passes (reset on) (false ∷ []) (bus.reset ∷ []) on
 reset_runs = record { run = λ rs es told handed h. sent h }
 
-pub send-runs : (bits ignored : List Bool) {on : Script} → length ignored ≡ length bits → Passes (sendBits bits on) ignored (slots bits) on
-unfolding sendBits
+pub send-runs : (bits ignored : List Bool) {on : Script} → length ignored ≡ length bits → Passes (send_bits bits on) ignored (slots bits) on
+unfolding send_bits
 send-runs [] [] l = record { run = λ rs es told handed h. h }
 send-runs [] (i ∷ ignored) l = absurd (let z : ⊥ = omega arith in z)
 send-runs (b ∷ bits) [] l = absurd (let z : ⊥ = omega arith in z)
 send-runs (b ∷ bits) (i ∷ ignored) l = record { run = λ rs es told handed h. sent ((send-runs bits ignored (omega arith)).run rs es told handed h) }
 
-pub read-runs : (k v : ℕ) (on : ℕ → Script) → v < 2 ^ k → Passes (readBits k on) (bits_of k v) (reading k) (on v)
-unfolding readBits bits_of
+pub read-runs : (k v : ℕ) (on : ℕ → Script) → v < 2 ^ k → Passes (read_bits k on) (bits_of k v) (reading k) (on v)
+unfolding read_bits bits_of
 read-runs zero v on l = let e : v ≡ 0 = omega arith in record { run = λ rs es told handed h. subst (λ (x : ℕ). Runs (on x) rs es told handed) e h }
 read-runs (suc k) v on l =
     let e : v ≡ one (odd v) + 2 * (v / 2) = omega (arith, one-odd v) in
@@ -72,16 +72,16 @@ read-runs (suc k) v on l =
           (subst (λ (x : ℕ). Runs (on x) rs es told handed) e h));
     }
 
-pub bytes_runs : (k : ℕ) (bytes : List ℕ) (on : List ℕ → Script) → length bytes ≡ k → Small bytes → Passes (readBytes k on) (bitsOfBytes bytes) (reading (8 * k)) (on bytes)
-unfolding readBytes bitsOfBytes
+pub bytes_runs : (k : ℕ) (bytes : List ℕ) (on : List ℕ → Script) → length bytes ≡ k → Small bytes → Passes (read_bytes k on) (bits_of_bytes bytes) (reading (8 * k)) (on bytes)
+unfolding read_bytes bits_of_bytes
 bytes_runs zero [] on l small = record { run = λ rs es told handed h. h }
 bytes_runs zero (b ∷ bytes) on l small = absurd (let z : ⊥ = omega arith in z)
 bytes_runs (suc k) [] on l small = absurd (let z : ⊥ = omega arith in z)
 bytes_runs (suc k) (b ∷ bytes) on l small =
-    rw (more-slots k) at (read-runs 8 b (λ byte. readBytes k (λ more. on (byte ∷ more))) (small 0)
+    rw (more-slots k) at (read-runs 8 b (λ byte. read_bytes k (λ more. on (byte ∷ more))) (small 0)
     and_then bytes_runs k bytes (λ more. on (b ∷ more)) (omega arith) (λ i. small (suc i)))
 
-pub crc-runs : (crc : ℕ) (on : Script) → crc < 65536 → Passes (readCrc crc on) (bits_of 16 crc) (reading 16) on
+pub crc-runs : (crc : ℕ) (on : Script) → crc < 65536 → Passes (read_crc crc on) (bits_of 16 crc) (reading 16) on
 crc-runs crc on l = simp (eq-eqb crc crc refl) at (read-runs 16 crc (λ got. check (eqb got crc) 6 on) l)
 
 -- ---- taken apart
@@ -103,7 +103,7 @@ pub record Took {A : Type 0} (told : Outcome Next) (handed : List ℕ) (Fine : A
 
 -- a test that a run has passed, where its refusal is not what is told
 pub check-passed : (test : Bool) {number : ℕ} {values : List ℕ} {on : Script} {rs : List Bool} {es : List Event} {told : Outcome Next} {handed : List ℕ}
-    → (told ≡ refused number values → ⊥) → Runs (checkWith test number values on) rs es told handed → (test ≡ true) × Runs on rs es told handed
+    → (told ≡ refused number values → ⊥) → Runs (check_with test number values on) rs es told handed → (test ≡ true) × Runs on rs es told handed
 check-passed true other h = (refl, h)
 check-passed false other stopped = absurd (other refl)
 
@@ -142,17 +142,17 @@ module _ {told : Outcome Next} {handed : List ℕ} where
   abbrev one-event : {r : Bool} {e : Event} {on : Script} {rs : List Bool} {es : List Event} → Runs on rs es told handed → Goes told handed (r ∷ []) (e ∷ []) on (r ∷ rs) (e ∷ es)
   one-event {rs = rs} {es = es} h = record { later = rs; after = es; replies = refl; events = refl; runs = h }
 
-  pub send-passed : (bits : List Bool) (on : Script) {rs : List Bool} {es : List Event} → Runs (sendBits bits on) rs es told handed
+  pub send-passed : (bits : List Bool) (on : Script) {rs : List Bool} {es : List Event} → Runs (send_bits bits on) rs es told handed
       → Took told handed (λ ignored. length ignored ≡ length bits) (λ ignored. ignored) (slots bits) (λ ignored. on) rs es
-  unfolding sendBits
+  unfolding send_bits
   send-passed [] on h = record { value = []; fine = refl; goes = at_once h }
   send-passed (b ∷ bits) on (sent {r = r} h) =
       let s = send-passed bits on h in
       record { value = r ∷ s.value; fine = ap suc s.fine; goes = onward (one-event h) s.goes }
 
-  pub read-passed : (k : ℕ) (on : ℕ → Script) {rs : List Bool} {es : List Event} → Runs (readBits k on) rs es told handed
+  pub read-passed : (k : ℕ) (on : ℕ → Script) {rs : List Bool} {es : List Event} → Runs (read_bits k on) rs es told handed
       → Took told handed (λ v. v < 2 ^ k) (bits_of k) (reading k) on rs es
-  unfolding readBits bits_of
+  unfolding read_bits bits_of
   read-passed zero on h = record { value = 0; fine = omega arith; goes = at_once h }
   read-passed (suc k) on (sent {r = r} {rs = rs} {es = es} h) =
       let s = read-passed k (λ rest. on (one r + 2 * rest)) h in
@@ -165,7 +165,7 @@ module _ {told : Outcome Next} {handed : List ℕ} where
       }
 
   -- a CRC that agreed
-  pub crc-passed : (crc : ℕ) (on : Script) {rs : List Bool} {es : List Event} → (told ≡ refused 6 [] → ⊥) → Runs (readCrc crc on) rs es told handed
+  pub crc-passed : (crc : ℕ) (on : Script) {rs : List Bool} {es : List Event} → (told ≡ refused 6 [] → ⊥) → Runs (read_crc crc on) rs es told handed
       → Goes told handed (bits_of 16 crc) (reading 16) on rs es
   crc-passed crc on {rs} {es} other h =
       let b = read-passed 16 (λ got. check (eqb got crc) 6 on) h in
@@ -173,12 +173,12 @@ module _ {told : Outcome Next} {handed : List ℕ} where
       subst (λ (v : ℕ). Goes told handed (bits_of 16 v) (reading 16) on rs es) (eqb-true b.value crc c.0)
       (record { later = b.goes.later; after = b.goes.after; replies = b.goes.replies; events = b.goes.events; runs = c.1 })
 
-  pub bytes-passed : (k : ℕ) (on : List ℕ → Script) {rs : List Bool} {es : List Event} → Runs (readBytes k on) rs es told handed
-      → Took told handed (λ bytes. (length bytes ≡ k) × Small bytes) bitsOfBytes (reading (8 * k)) on rs es
-  unfolding readBytes bitsOfBytes
+  pub bytes-passed : (k : ℕ) (on : List ℕ → Script) {rs : List Bool} {es : List Event} → Runs (read_bytes k on) rs es told handed
+      → Took told handed (λ bytes. (length bytes ≡ k) × Small bytes) bits_of_bytes (reading (8 * k)) on rs es
+  unfolding read_bytes bits_of_bytes
   bytes-passed zero on h = record { value = []; fine = (refl, λ i. omega arith); goes = at_once h }
   bytes-passed (suc k) on h =
-      let b = read-passed 8 (λ byte. readBytes k (λ more. on (byte ∷ more))) h in
+      let b = read-passed 8 (λ byte. read_bytes k (λ more. on (byte ∷ more))) h in
       let s = bytes-passed k (λ more. on (b.value ∷ more)) b.goes.runs in
       record {
         value = b.value ∷ s.value;
@@ -194,12 +194,12 @@ module _ {told : Outcome Next} {handed : List ℕ} where
 
 module _ {B : Type 0} (react : B → Event → B) (line : B → Event → Bool) where
   pub runs_on : {script : Script} (b : B) {rs : List Bool} {es : List Event} {told : Outcome Next} {bytes : List ℕ} → Runs script rs es told bytes → lines react line b es ≡ rs
-      → playOn react line script b ≡ record { events = es; told = told; bytes = bytes }
-  unfolding playOn
+      → play_on react line script b ≡ record { events = es; told = told; bytes = bytes }
+  unfolding play_on
   runs_on b stopped d = refl
   runs_on b given d = refl
   runs_on b (sent {e = e} {on = on} {r = r} {rs = rs} {es = es} {told = told} {bytes = bytes} h) d =
       let drawn : line b e ≡ r = cc d in
       let more : lines react line (react b e) es ≡ rs = cc d in
       ap (λ (p : Played). record { events = e ∷ p.events; told = p.told; bytes = p.bytes })
-      (ap (λ (q : Bool). playOn react line (on q) (react b e)) drawn ∙ runs_on (react b e) h more)
+      (ap (λ (q : Bool). play_on react line (on q) (react b e)) drawn ∙ runs_on (react b e) h more)

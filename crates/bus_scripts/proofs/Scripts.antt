@@ -6,20 +6,20 @@ use mathlib.Core.Path.{◌≡◌, refl, ap, ◌∙◌, subst}
 use lib.ListN.{length}
 use Rattle.base_types.specs.Outcome.{Outcome, refused, accepted}
 use Rattle.bus_events.specs.declared.Event.{Event}
-use Rattle.bus_scripts.specs.Joint.{answers, reached, drew, GoodAfter, Good, drawnReplies}
+use Rattle.bus_scripts.specs.Joint.{answers, reached, drew, GoodAfter, Good, drawn_replies}
 use Rattle.bus_scripts.specs.Next.{Next, send, tells, out_of}
-use Rattle.bus_scripts.specs.Script.{Script, stops, gives, sends, outcomeAt, handedAt, follow, playFrom, play, leftIn, leftBy, telling, leaving, playOn, playedTelling, ScriptLaws}
+use Rattle.bus_scripts.specs.Script.{Script, stops, gives, sends, outcome_at, handed_at, follow, play_from, play, left_in, left_by, telling, leaving, play_on, played_telling, ScriptLaws}
 
 module _ {B : Type 0} (react : B → Event → B) (line : B → Event → Bool) where
   abbrev GoodFor : (Bool → Script) → B → Bool → List Bool → Type 0
-  GoodFor on b drawn rs = GoodAfter react line out_of b drawn (playFrom on rs) rs
+  GoodFor on b drawn rs = GoodAfter react line out_of b drawn (play_from on rs) rs
 
-  abbrev leftOn : Script → B → ℕ → List ℕ → List ℕ
-  leftOn script b k lent = leaving (playOn react line script b).events (playOn react line script b).bytes k lent
+  abbrev left_on : Script → B → ℕ → List ℕ → List ℕ
+  left_on script b k lent = leaving (play_on react line script b).events (play_on react line script b).bytes k lent
 
   -- calls with these replies tell what the script tells on the bus, and leave in a buffer what it leaves there
   abbrev Does : (Bool → Script) → List Bool → Script → B → Type 0
-  Does on rs script b = (playFrom on rs ≡ playedTelling react line script b (length rs)) × ((lent : List ℕ) → leftBy on rs lent ≡ leftOn script b (length rs) lent)
+  Does on rs script b = (play_from on rs ≡ played_telling react line script b (length rs)) × ((lent : List ℕ) → left_by on rs lent ≡ left_on script b (length rs) lent)
 
   kept_buffer : (k : ℕ) (lent : List ℕ) → leaving [] [] k lent ≡ lent
   unfolding leaving
@@ -30,14 +30,14 @@ module _ {B : Type 0} (react : B → Event → B) (line : B → Event → Bool) 
 
   module _ (rs : List Bool) (more : (on : Bool → Script) (b : B) (drawn : Bool) → GoodFor on b drawn rs → Does on rs (on drawn) b) where
     good-at : (x : Script) (b : B) (drawn : Bool)
-        → GoodFor (follow x) (reached react line (out_of (outcomeAt x)) b) (drew react line (out_of (outcomeAt x)) b drawn) rs → Does (λ first. x) (drawn ∷ rs) x b
-    unfolding telling playOn leaving
+        → GoodFor (follow x) (reached react line (out_of (outcome_at x)) b) (drew react line (out_of (outcome_at x)) b drawn) rs → Does (λ first. x) (drawn ∷ rs) x b
+    unfolding telling play_on leaving
     good-at (stops number values) b drawn g =
         let m = more (follow (stops number values)) b drawn g in
         (ap (λ (l : List (Outcome Next)). refused number values ∷ l) m.0, λ lent. m.1 lent ∙ kept_buffer (length rs) lent)
     good-at (gives values bytes) b drawn g =
         let m = more (follow (gives values bytes)) b drawn g in
-        (ap (λ (l : List (Outcome Next)). accepted (tells values) ∷ l) m.0, λ lent. m.1 (leftIn bytes lent) ∙ kept_buffer (length rs) (leftIn bytes lent))
+        (ap (λ (l : List (Outcome Next)). accepted (tells values) ∷ l) m.0, λ lent. m.1 (left_in bytes lent) ∙ kept_buffer (length rs) (left_in bytes lent))
     good-at (sends e on) b drawn g = let m = more on (react b e) (line b e) g in (ap (λ (l : List (Outcome Next)). accepted (send e) ∷ l) m.0, m.1)
 
   good-from : (rs : List Bool) (on : Bool → Script) (b : B) (drawn : Bool) → GoodFor on b drawn rs → Does on rs (on drawn) b
@@ -53,28 +53,28 @@ module _ {B : Type 0} (react : B → Event → B) (line : B → Event → Bool) 
   -- ---- the drawn replies are good
 
   module _ {S : Type 0} (call : S → Bool → S) (told : S → Bool → Outcome Next) where
-    abbrev drawnOf : ℕ → S → B → Bool → List Bool
-    drawnOf k s b r = drawnReplies react line out_of call told k s b r
+    abbrev drawn_of : ℕ → S → B → Bool → List Bool
+    drawn_of k s b r = drawn_replies react line out_of call told k s b r
 
-    drawn-length : (k : ℕ) (s : S) (b : B) (r : Bool) → length (drawnOf k s b r) ≡ k
-    unfolding drawnReplies
+    drawn-length : (k : ℕ) (s : S) (b : B) (r : Bool) → length (drawn_of k s b r) ≡ k
+    unfolding drawn_replies
     drawn-length zero s b r = refl
     drawn-length (suc k) s b r = ap suc (drawn-length k (call s r) (reached react line (out_of (told s r)) b) (drew react line (out_of (told s r)) b r))
 
-    drawn-after : (k : ℕ) (s : S) (b : B) (r : Bool) → GoodAfter react line out_of b r (answers call told s (drawnOf k s b r)) (drawnOf k s b r)
-    unfolding drawnReplies
+    drawn-after : (k : ℕ) (s : S) (b : B) (r : Bool) → GoodAfter react line out_of b r (answers call told s (drawn_of k s b r)) (drawn_of k s b r)
+    unfolding drawn_replies
     drawn-after zero s b r = tt
     drawn-after (suc k) s b r = (refl, drawn-after k (call s r) (reached react line (out_of (told s r)) b) (drew react line (out_of (told s r)) b r))
 
-    drawn-good : (k : ℕ) (s : S) (b : B) (r : Bool) → Good react line out_of b (answers call told s (drawnOf k s b r)) (drawnOf k s b r)
-    unfolding drawnReplies
+    drawn-good : (k : ℕ) (s : S) (b : B) (r : Bool) → Good react line out_of b (answers call told s (drawn_of k s b r)) (drawn_of k s b r)
+    unfolding drawn_replies
     drawn-good zero s b r = tt
-    drawn-good (suc k) s b r = unfold drawnReplies in drawn-after (suc k) s b r
+    drawn-good (suc k) s b r = unfold drawn_replies in drawn-after (suc k) s b r
 
 on-bus : {B S : Type 0} (react : B → Event → B) (line : B → Event → Bool) (call : S → Bool → S) (told : S → Bool → Outcome Next) {s : S} {script : Script}
     → ((replies : List Bool) → answers call told s replies ≡ play script replies)
     → (b : B) (replies : List Bool) → Good react line out_of b (answers call told s replies) replies
-    → answers call told s replies ≡ playedTelling react line script b (length replies)
+    → answers call told s replies ≡ played_telling react line script b (length replies)
 on-bus react line call told {s} {script} plays b replies g =
     plays replies ∙ (good-does react line script b replies (subst (λ (l : List (Outcome Next)). Good react line out_of b l replies) (plays replies) g)).0
 

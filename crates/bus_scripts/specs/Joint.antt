@@ -54,6 +54,6 @@ module _ {E B : Type 0} (react : B → E → B) (line : B → E → Bool) where
 
     -- the replies that so many calls get, joined to the bus; the first gets any
     module _ {S : Type 0} (call : S → Bool → S) (told : S → Bool → A) where
-      unfoldable pub drawnReplies : ℕ → S → B → Bool → List Bool
-      drawnReplies zero s b r = []
-      drawnReplies (suc k) s b r = r ∷ drawnReplies k (call s r) (reached (out (told s r)) b) (drew (out (told s r)) b r)
+      unfoldable pub drawn_replies : ℕ → S → B → Bool → List Bool
+      drawn_replies zero s b r = []
+      drawn_replies (suc k) s b r = r ∷ drawn_replies k (call s r) (reached (out (told s r)) b) (drew (out (told s r)) b r)

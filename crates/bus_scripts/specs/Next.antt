@@ -15,8 +15,8 @@ out_of (accepted (tells values)) = quiet
 out_of (refused k values) = quiet
 
 -- the events among answers
-unfoldable pub eventsOf : List (Outcome Next) → List Event
-eventsOf [] = []
-eventsOf (accepted (send e) ∷ rest) = e ∷ eventsOf rest
-eventsOf (accepted (tells values) ∷ rest) = eventsOf rest
-eventsOf (refused k values ∷ rest) = eventsOf rest
+unfoldable pub events_of : List (Outcome Next) → List Event
+events_of [] = []
+events_of (accepted (send e) ∷ rest) = e ∷ events_of rest
+events_of (accepted (tells values) ∷ rest) = events_of rest
+events_of (refused k values ∷ rest) = events_of rest

@@ -6,16 +6,16 @@ use mathlib.Core.List.{List}
 use native.Mathlib.Omega.{arith}
 use lib.Dec.{eqb}
 use borrow.Author.Tests.{eqb-true, eqb-false, not-true, eq-eqb, ne_eqb}
-use Rattle.chip_memory.specs.Layout.{firstAddress}
-use Rattle.chip_memory.specs.Image.{redirectionOf, pageBit}
+use Rattle.chip_memory.specs.Layout.{first_address}
+use Rattle.chip_memory.specs.Image.{redirection_of, page_bit}
 use Rattle.chip_chain.specs.declared.free.Found.TheVariants.{At, Nothing}
 use Rattle.chip_chain.specs.Walk.{named_by}
-use Rattle.chip_chain.specs.Free.{names, isUnnamed, isFree, isFreeOther, lowestFree, Free, Lowest, FreeLaws}
+use Rattle.chip_chain.specs.Free.{names, is_unnamed, is_free, is_free_other, lowest_free, Free, Lowest, FreeLaws}
 use Rattle.base_types.proofs.Scan.{both_true, every-means, every-intro}
 use Rattle.chip_chain.proofs.Scan.{first-at, first-nothing}
 
-pub free-means : (n : ℕ) (img : List ℕ) (p : ℕ) → isFree n img p ≡ true → Free n img p
-unfolding isFree isUnnamed
+pub free-means : (n : ℕ) (img : List ℕ) (p : ℕ) → is_free n img p ≡ true → Free n img p
+unfolding is_free is_unnamed
 free-means n img p e =
     let a = both_true _ _ e in
     let b = both_true _ _ a.1 in
@@ -29,19 +29,19 @@ free-means n img p e =
       unprotected = c.0;
       valid = eqb-true _ _ d.0;
       blank = f.0;
-      unnamed = λ q lt. not-true _ (every-means (λ (r : ℕ). not (names (redirectionOf n img r) p)) n 0 f.1 q (omega arith) (omega arith));
+      unnamed = λ q lt. not-true _ (every-means (λ (r : ℕ). not (names (redirection_of n img r) p)) n 0 f.1 q (omega arith) (omega arith));
     }
 
-pub means-free : (n : ℕ) (img : List ℕ) (p : ℕ) → Free n img p → isFree n img p ≡ true
-unfolding isFree isUnnamed
+pub means-free : (n : ℕ) (img : List ℕ) (p : ℕ) → Free n img p → is_free n img p ≡ true
+unfolding is_free is_unnamed
 means-free n img p f =
-    let u : isUnnamed n img p ≡ true = every-intro (λ (r : ℕ). not (names (redirectionOf n img r) p)) n 0 (λ q a b. simp (f.unnamed q (omega arith))) in
+    let u : is_unnamed n img p ≡ true = every-intro (λ (r : ℕ). not (names (redirection_of n img r) p)) n 0 (λ q a b. simp (f.unnamed q (omega arith))) in
     let z : eqb p 0 ≡ false = ne_eqb p 0 (λ w. omega (arith, f.low)) in
     simp (z, f.unused, f.unprotected, eq-eqb _ _ f.valid, f.blank) u
 
 -- a free page that fails the search's test is l
-is-l : (n : ℕ) (img : List ℕ) (l p : ℕ) → Free n img p → isFreeOther n img l p ≡ false → p ≡ l
-unfolding isFreeOther
+is-l : (n : ℕ) (img : List ℕ) (l p : ℕ) → Free n img p → is_free_other n img l p ≡ false → p ≡ l
+unfolding is_free_other
 is-l n img l p f e = go (eqb p l) refl
   where
     go : (b : Bool) → eqb p l ≡ b → p ≡ l
@@ -55,11 +55,11 @@ named-elsewhere byte p low e z =
     let y : ◌≡◌ {A = Bool} true false = sym s ∙ e in
     let x : ◌≡◌ {A = ℕ} 0 1 = cc in omega arith
 
-pub found-means : (n : ℕ) (img : List ℕ) (l t : ℕ) → lowestFree n img l ≡ At (record { 0 = t }) → Lowest n img l t
-unfolding lowestFree isFreeOther
+pub found-means : (n : ℕ) (img : List ℕ) (l t : ℕ) → lowest_free n img l ≡ At (record { 0 = t }) → Lowest n img l t
+unfolding lowest_free is_free_other
 found-means n img l t e =
-    let f = first-at (isFreeOther n img l) n 0 t e in
-    let w = both_true (not (eqb t l)) (isFree n img t) f.holds in
+    let f = first-at (is_free_other n img l) n 0 t e in
+    let w = both_true (not (eqb t l)) (is_free n img t) f.holds in
     record {
       on-chip = omega (arith, f.high);
       free = free-means n img t w.1;
@@ -68,12 +68,12 @@ found-means n img l t e =
     }
 
 -- no page found: there is none
-pub nothing-means : (n : ℕ) (img : List ℕ) (l : ℕ) → lowestFree n img l ≡ Nothing → (p : ℕ) → p < n → Free n img p → p ≡ l
-unfolding lowestFree
-nothing-means n img l e p lt f = is-l n img l p f (first-nothing (isFreeOther n img l) n 0 e p (omega arith) (omega arith))
+pub nothing-means : (n : ℕ) (img : List ℕ) (l : ℕ) → lowest_free n img l ≡ Nothing → (p : ℕ) → p < n → Free n img p → p ≡ l
+unfolding lowest_free
+nothing-means n img l e p lt f = is-l n img l p f (first-nothing (is_free_other n img l) n 0 e p (omega arith) (omega arith))
 
 pub free-laws : (n : ℕ) (img : List ℕ) → FreeLaws n img
-unfolding pageBit redirectionOf firstAddress
+unfolding page_bit redirection_of first_address
 free-laws n img =
     record {
       free-means = free-means n img;

@@ -12,8 +12,8 @@ use borrow.Author.Tests.{eqb-true, eqb-false, ltb-true, ltb-false, eq-eqb, ne_eq
 use Rattle.base_types.specs.declared.address.Page.{Page}
 use Rattle.base_types.specs.declared.verdict.Verdict.TheVariants.{Final, Loop, Outside}
 use Rattle.base_types.specs.Verdict.{final}
-use Rattle.chip_memory.specs.Image.{redirectionOf}
-use Rattle.chip_chain.specs.Walk.{named_by, walkFrom, walkBy, walk_of}
+use Rattle.chip_memory.specs.Image.{redirection_of}
+use Rattle.chip_chain.specs.Walk.{named_by, walk_from, walk_by, walk_of}
 use Rattle.chip_chain.specs.Chain.{met, Inside, EndsFinal, EndsOutside, Endless, WalkLaws}
 use Rattle.chip_chain.proofs.Pigeon.{pigeon}
 
@@ -42,34 +42,34 @@ outside-not-loop e = let z : ◌≡◌ {A = ℕ} 0 1 = cc in omega arith
 
 module _ (b : ℕ → ℕ) (n : ℕ) where
   -- one step of the walk, by what the byte says
-  step-valid : (k p a : ℕ) → b p ≡ 255 → walkFrom b n (suc k) p a ≡ final p a
-  unfolding walkFrom
+  step-valid : (k p a : ℕ) → b p ≡ 255 → walk_from b n (suc k) p a ≡ final p a
+  unfolding walk_from
   step-valid k p a e = simp (eq-eqb _ _ e)
 
-  step-beyond : (k p a : ℕ) → (b p ≡ 255 → ⊥) → n ≤ named_by (b p) → walkFrom b n (suc k) p a ≡ Outside (named_by (b p))
-  unfolding walkFrom
+  step-beyond : (k p a : ℕ) → (b p ≡ 255 → ⊥) → n ≤ named_by (b p) → walk_from b n (suc k) p a ≡ Outside (named_by (b p))
+  unfolding walk_from
   step-beyond k p a d l = simp (ne_eqb _ _ d, le-ltb _ _ l)
 
-  step-inside : (k p a : ℕ) → Inside b n p → walkFrom b n (suc k) p a ≡ walkFrom b n k (named_by (b p)) (a + 1)
-  unfolding walkFrom
+  step-inside : (k p a : ℕ) → Inside b n p → walk_from b n (suc k) p a ≡ walk_from b n k (named_by (b p)) (a + 1)
+  unfolding walk_from
   step-inside k p a i = simp (ne_eqb _ _ i.redirected, lt-ltb _ _ i.below)
 
   -- the same as a loop sees it, after h of n steps
-  loop-step : (h p : ℕ) → h < n → walkFrom b n (n - h) p h ≡ walkFrom b n (suc (n - (h + 1))) p h
-  loop-step h p lt = ap (λ k. walkFrom b n k p h) (omega arith)
+  loop-step : (h p : ℕ) → h < n → walk_from b n (n - h) p h ≡ walk_from b n (suc (n - (h + 1))) p h
+  loop-step h p lt = ap (λ k. walk_from b n k p h) (omega arith)
 
-  pub loop-valid : (h p : ℕ) → h < n → b p ≡ 255 → walkFrom b n (n - h) p h ≡ final p h
+  pub loop-valid : (h p : ℕ) → h < n → b p ≡ 255 → walk_from b n (n - h) p h ≡ final p h
   loop-valid h p lt e = loop-step h p lt ∙ step-valid (n - (h + 1)) p h e
 
-  pub loop-beyond : (h p : ℕ) → h < n → (b p ≡ 255 → ⊥) → n ≤ named_by (b p) → walkFrom b n (n - h) p h ≡ Outside (named_by (b p))
+  pub loop-beyond : (h p : ℕ) → h < n → (b p ≡ 255 → ⊥) → n ≤ named_by (b p) → walk_from b n (n - h) p h ≡ Outside (named_by (b p))
   loop-beyond h p lt d l = loop-step h p lt ∙ step-beyond (n - (h + 1)) p h d l
 
-  pub loop-inside : (h p : ℕ) → h < n → (b p ≡ 255 → ⊥) → named_by (b p) < n → walkFrom b n (n - h) p h ≡ walkFrom b n (n - (h + 1)) (named_by (b p)) (h + 1)
+  pub loop-inside : (h p : ℕ) → h < n → (b p ≡ 255 → ⊥) → named_by (b p) < n → walk_from b n (n - h) p h ≡ walk_from b n (n - (h + 1)) (named_by (b p)) (h + 1)
   loop-inside h p lt d l = loop-step h p lt ∙ step-inside (n - (h + 1)) p h (record { redirected = d; below = l })
 
-  pub loop-over : (h p : ℕ) → n ≤ h → walkFrom b n (n - h) p h ≡ Loop
-  unfolding walkFrom
-  loop-over h p le = let e : n - h ≡ 0 = omega arith in ap (λ k. walkFrom b n k p h) e
+  pub loop-over : (h p : ℕ) → n ≤ h → walk_from b n (n - h) p h ≡ Loop
+  unfolding walk_from
+  loop-over h p le = let e : n - h ≡ 0 = omega arith in ap (λ k. walk_from b n k p h) e
 
   -- the chain from p stops after h hops: not before, and then
   pub record Stops (p h : ℕ) : Type 0 where
@@ -110,18 +110,18 @@ module _ (b : ℕ → ℕ) (n : ℕ) where
           (s.before (i + (h - j)) (omega arith)))
 
   -- the walk past h redirected pages
-  walk-on : (h k p a : ℕ) → ((i : ℕ) → i < h → Inside b n (met b p i)) → walkFrom b n (h + k) p a ≡ walkFrom b n k (met b p h) (a + h)
+  walk-on : (h k p a : ℕ) → ((i : ℕ) → i < h → Inside b n (met b p i)) → walk_from b n (h + k) p a ≡ walk_from b n k (met b p h) (a + h)
   walk-on zero k p a f = rw (zero-add, add-zero)
   walk-on (suc h) k p a f =
       rw (suc-add, step-inside (h + k) p a (f 0 (omega arith)), walk-on h k (named_by (b p)) (a + 1) (λ i l. f (suc i) (omega arith)))
-      (ap (walkFrom b n k (met b (named_by (b p)) h)) (omega arith))
+      (ap (walk_from b n k (met b (named_by (b p)) h)) (omega arith))
 
   -- the same from the start, for a chain that stops
-  walk-to : (p h : ℕ) → p < n → Stops p h → walkBy b n p ≡ walkFrom b n (suc (n - suc h)) (met b p h) h
+  walk-to : (p h : ℕ) → p < n → Stops p h → walk_by b n p ≡ walk_from b n (suc (n - suc h)) (met b p h) h
   walk-to p h lt s =
       let l : h < n = stops-early p h lt s in
       let e : n ≡ h + suc (n - suc h) = omega arith in
-      ap (λ k. walkFrom b n k p 0) e ∙ walk-on h (suc (n - suc h)) p 0 s.before ∙ ap (walkFrom b n (suc (n - suc h)) (met b p h)) (zero-add h)
+      ap (λ k. walk_from b n k p 0) e ∙ walk-on h (suc (n - suc h)) p 0 s.before ∙ ap (walk_from b n (suc (n - suc h)) (met b p h)) (zero-add h)
 
   pub final-stops : {p f h : ℕ} → EndsFinal b n p f h → Stops p h
   final-stops e = record { last = λ i. i.redirected (ap b e.there ∙ e.valid); before = e.before }
@@ -129,18 +129,18 @@ module _ (b : ℕ → ℕ) (n : ℕ) where
   pub outside-stops : {p x : ℕ} (e : EndsOutside b n p x) → Stops p e.hops
   outside-stops e = record { last = λ i. not-le_of_lt i.below (omega (arith, e.named, e.beyond)); before = e.before }
 
-  pub walk-final : {p f h : ℕ} → p < n → EndsFinal b n p f h → walkBy b n p ≡ final f h
+  pub walk-final : {p f h : ℕ} → p < n → EndsFinal b n p f h → walk_by b n p ≡ final f h
   walk-final {p} {f} {h} lt e =
       walk-to p h lt (final-stops e) ∙ step-valid (n - suc h) (met b p h) h (ap b e.there ∙ e.valid) ∙ ap (λ q. final q h) e.there
 
-  pub walk-outside : {p x : ℕ} → p < n → EndsOutside b n p x → walkBy b n p ≡ Outside x
+  pub walk-outside : {p x : ℕ} → p < n → EndsOutside b n p x → walk_by b n p ≡ Outside x
   walk-outside {p} {x} lt e =
       walk-to p e.hops lt (outside-stops e) ∙ step-beyond (n - suc e.hops) (met b p e.hops) e.hops e.redirected (omega (arith, e.named, e.beyond))
       ∙ ap Outside e.named
 
-  pub walk_loop : {p : ℕ} → Endless b n p → walkBy b n p ≡ Loop
-  unfolding walkFrom
-  walk_loop {p} e = ap (λ k. walkFrom b n k p 0) (sym (add-zero n)) ∙ walk-on n 0 p 0 (λ i l. e i)
+  pub walk_loop : {p : ℕ} → Endless b n p → walk_by b n p ≡ Loop
+  unfolding walk_from
+  walk_loop {p} e = ap (λ k. walk_from b n k p 0) (sym (add-zero n)) ∙ walk-on n 0 p 0 (λ i l. e i)
 
   -- how the chain ends: one of the three ways
   pub data Ends (p : ℕ) : Type 0 where
@@ -162,12 +162,12 @@ module _ (b : ℕ → ℕ) (n : ℕ) where
       on f k (inr g) = g k (omega arith)
 
   -- the walk's verdict means what the chain says
-  pub final-means : (p f h : ℕ) → p < n → (walkBy b n p ≡ final f h) ↔ EndsFinal b n p f h
+  pub final-means : (p f h : ℕ) → p < n → (walk_by b n p ≡ final f h) ↔ EndsFinal b n p f h
   final-means p f h lt = (λ e. go e (ends p lt), walk-final lt)
     where
-      go : walkBy b n p ≡ final f h → Ends p → EndsFinal b n p f h
+      go : walk_by b n p ≡ final f h → Ends p → EndsFinal b n p f h
       go e (at-final g k w) =
-          let v : walkBy b n p ≡ final g k = walk-final lt w in
+          let v : walk_by b n p ≡ final g k = walk-final lt w in
           let r : ◌≡◌ {A = Page} (record { 0 = g }) (record { 0 = f }) = cc in
           let s : g ≡ f = ap (λ (q : Page). q.0) r in
           let t : k ≡ h = cc in
@@ -175,33 +175,33 @@ module _ (b : ℕ → ℕ) (n : ℕ) where
       go e (at-outside x w) = absurd (final-not-outside (sym e ∙ walk-outside lt w))
       go e (at_none w) = absurd (final-not-loop (sym e ∙ walk_loop w))
 
-  pub outside-means : (p x : ℕ) → p < n → (walkBy b n p ≡ Outside x) ↔ EndsOutside b n p x
+  pub outside-means : (p x : ℕ) → p < n → (walk_by b n p ≡ Outside x) ↔ EndsOutside b n p x
   outside-means p x lt = (λ e. go e (ends p lt), walk-outside lt)
     where
-      go : walkBy b n p ≡ Outside x → Ends p → EndsOutside b n p x
+      go : walk_by b n p ≡ Outside x → Ends p → EndsOutside b n p x
       go e (at-final g k w) = absurd (final-not-outside (sym (walk-final lt w) ∙ e))
       go e (at-outside y w) =
-          let v : walkBy b n p ≡ Outside y = walk-outside lt w in
+          let v : walk_by b n p ≡ Outside y = walk-outside lt w in
           let s : y ≡ x = cc in
           subst (EndsOutside b n p) s w
       go e (at_none w) = absurd (outside-not-loop (sym e ∙ walk_loop w))
 
-  pub loop-means : (p : ℕ) → p < n → (walkBy b n p ≡ Loop) ↔ Endless b n p
+  pub loop-means : (p : ℕ) → p < n → (walk_by b n p ≡ Loop) ↔ Endless b n p
   loop-means p lt = (λ e. go e (ends p lt), walk_loop)
     where
-      go : walkBy b n p ≡ Loop → Ends p → Endless b n p
+      go : walk_by b n p ≡ Loop → Ends p → Endless b n p
       go e (at-final g k w) = absurd (final-not-loop (sym (walk-final lt w) ∙ e))
       go e (at-outside x w) = absurd (outside-not-loop (sym (walk-outside lt w) ∙ e))
       go e (at_none w) = w
 
   -- no more hops than pages other than the first
-  pub final-hops : (p f h : ℕ) → p < n → walkBy b n p ≡ final f h → h < n
+  pub final-hops : (p f h : ℕ) → p < n → walk_by b n p ≡ final f h → h < n
   final-hops p f h lt e = stops-early p h lt (final-stops ((final-means p f h lt).0 e))
 
 pub walk-laws : (n : ℕ) (img : List ℕ) (p : ℕ) → p < n → WalkLaws n img p
 unfolding walk_of
 walk-laws n img p lt =
-    let b = redirectionOf n img in
+    let b = redirection_of n img in
     record {
       final-means = λ f h. final-means b n p f h lt;
       outside-means = λ x. outside-means b n p x lt;

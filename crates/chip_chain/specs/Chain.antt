@@ -2,7 +2,7 @@
 -- Here b is the redirection byte of each page, and n the page count.
 use Rattle.std.specs.Prelude.{ℕ, zero, suc, ◌<◌, ◌≤◌, List, ◌↔◌, ◌≡◌}
 use Rattle.base_types.specs.Verdict.{final, loops, outside}
-use Rattle.chip_memory.specs.Image.{redirectionOf}
+use Rattle.chip_memory.specs.Image.{redirection_of}
 use Rattle.chip_chain.specs.Walk.{named_by, walk_of}
 
 -- the page met after k hops from p
@@ -35,8 +35,8 @@ Endless b n p = (k : ℕ) → Inside b n (met b p k)
 
 -- the walk's verdict means what the chain says, from every page of the chip
 pub record WalkLaws (n : ℕ) (img : List ℕ) (p : ℕ) : Type 0 where
-  pub final-means : (f h : ℕ) → (walk_of n img p ≡ final f h) ↔ EndsFinal (redirectionOf n img) n p f h
-  pub outside-means : (x : ℕ) → (walk_of n img p ≡ outside x) ↔ EndsOutside (redirectionOf n img) n p x
-  pub loop-means : (walk_of n img p ≡ loops) ↔ Endless (redirectionOf n img) n p
+  pub final-means : (f h : ℕ) → (walk_of n img p ≡ final f h) ↔ EndsFinal (redirection_of n img) n p f h
+  pub outside-means : (x : ℕ) → (walk_of n img p ≡ outside x) ↔ EndsOutside (redirection_of n img) n p x
+  pub loop-means : (walk_of n img p ≡ loops) ↔ Endless (redirection_of n img) n p
   -- no more hops than pages other than the first
   pub final-hops : (f h : ℕ) → walk_of n img p ≡ final f h → h < n

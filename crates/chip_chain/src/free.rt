@@ -1,7 +1,7 @@
 // Free pages.
 ghost use Rattle.std.specs.Prelude.{◌≡◌};
-ghost use Rattle.chip_memory.specs.Layout.{pageCount};
-ghost use Rattle.chip_chain.specs.Free.{names, isUnnamed, isFree, isFreeOther, lowestFree};
+ghost use Rattle.chip_memory.specs.Layout.{page_count};
+ghost use Rattle.chip_chain.specs.Free.{names, is_unnamed, is_free, is_free_other, lowest_free};
 
 use crate::walk;
 use base_types::address::{Page, Redirection};
@@ -27,7 +27,7 @@ pub fn is_named_by(b: Redirection, p: Page) -> bool
 
 // No redirection byte names a page.
 pub fn is_unnamed(image: &[u8], last: Page, p: Page) -> bool
-    ensures { result ≡ isUnnamed (pageCount last) image.now p.0 }
+    ensures { result ≡ is_unnamed (page_count last) image.now p.0 }
 {
     for q in 0..layout::page_count(last) {
         if is_named_by(image::redirection_of(image, last, Page(q as u8)), p) {
@@ -39,7 +39,7 @@ pub fn is_unnamed(image: &[u8], last: Page, p: Page) -> bool
 
 // A page is free.
 pub fn is_free(image: &[u8], last: Page, p: Page) -> bool
-    ensures { result ≡ isFree (pageCount last) image.now p.0 }
+    ensures { result ≡ is_free (page_count last) image.now p.0 }
 {
     if p.0 == 0 {
         return false;
@@ -61,7 +61,7 @@ pub fn is_free(image: &[u8], last: Page, p: Page) -> bool
 
 // A page is free, and is not the one given.
 pub fn is_free_other(image: &[u8], last: Page, other: Page, p: Page) -> bool
-    ensures { result ≡ isFreeOther (pageCount last) image.now other.0 p.0 }
+    ensures { result ≡ is_free_other (page_count last) image.now other.0 p.0 }
 {
     if p.0 == other.0 {
         return false;
@@ -71,7 +71,7 @@ pub fn is_free_other(image: &[u8], last: Page, other: Page, p: Page) -> bool
 
 // The lowest free page other than the one given.
 pub fn lowest_free(image: &[u8], last: Page, other: Page) -> Found
-    ensures { result ≡ lowestFree (pageCount last) image.now other.0 }
+    ensures { result ≡ lowest_free (page_count last) image.now other.0 }
 {
     for p in 0..layout::page_count(last) {
         if is_free_other(image, last, other, Page(p as u8)) {

@@ -1,6 +1,6 @@
 // The walk along redirection bytes.
 ghost use Rattle.std.specs.Prelude.{◌≡◌};
-ghost use Rattle.chip_memory.specs.Layout.{pageCount};
+ghost use Rattle.chip_memory.specs.Layout.{page_count};
 ghost use Rattle.chip_chain.specs.Walk.{named_by, walk_of};
 
 use base_types::address::{Page, Redirection};
@@ -16,7 +16,7 @@ pub fn named_by(b: Redirection) -> Page
 
 // The walk from a page.
 pub fn walk(image: &[u8], last: Page, page: Page) -> Verdict
-    ensures { result ≡ walk_of (pageCount last) image.now page.0 }
+    ensures { result ≡ walk_of (page_count last) image.now page.0 }
 {
     let mut at = page;
     for hops in 0..layout::page_count(last) {

@@ -7,12 +7,12 @@ use native.Mathlib.Omega.{arith}
 use lib.ListN.{length, length-set}
 use lib.Seq.{get_or-set_same, get_or-set_other}
 use Rattle.chip_memory.specs.declared.layout.Field.TheVariants.{UsedPages}
-use Rattle.chip_memory.specs.Layout.{imageSize}
+use Rattle.chip_memory.specs.Layout.{image_size}
 use Rattle.chip_memory.proofs.Sizes.{first-low}
-use Rattle.chip_memory.specs.Image.{redirectionOf, pageBytes}
+use Rattle.chip_memory.specs.Image.{redirection_of, page_bytes}
 use Rattle.base_types.specs.Verdict.{final}
-use Rattle.chip_chain.specs.Walk.{named_by, walk_of, walkBy}
-use Rattle.chip_chain_laws.specs.Update.{bytesUnder, read_of, redirectionIndex, bitmapIndex, bitCleared, pageFilled, linked}
+use Rattle.chip_chain.specs.Walk.{named_by, walk_of, walk_by}
+use Rattle.chip_chain_laws.specs.Update.{bytes_under, read_of, redirection_index, bitmap_index, bit_cleared, page_filled, linked}
 use Rattle.chip_chain.proofs.Walks.{final-means}
 use Rattle.chip_chain_laws.proofs.Relink.{Relinked, walk-moves, walk-stays, only-itself, final-below}
 use Rattle.chip_chain.specs.Chain.{EndsFinal}
@@ -20,46 +20,46 @@ use Rattle.chip_chain_laws.proofs.Stores.{redirection-kept, page-kept, stored-re
 
 -- what an accepted update may count on: of l, and of the free page t
 pub record Accepted (n : ℕ) (img new : List ℕ) (l t : ℕ) : Type 0 where
-  pub size : length img ≡ imageSize n
+  pub size : length img ≡ image_size n
   pub count : n ≤ 256
   pub long : length new ≡ 32
   pub superseded : l < n
-  pub superseded-valid : redirectionOf n img l ≡ 255
+  pub superseded-valid : redirection_of n img l ≡ 255
   pub target : t < n
   pub target-low : 1 ≤ t
-  pub target-valid : redirectionOf n img t ≡ 255
-  pub target-unnamed : (q : ℕ) → q < n → named_by (redirectionOf n img q) ≡ t → ⊥
+  pub target-valid : redirection_of n img t ≡ 255
+  pub target-unnamed : (q : ℕ) → q < n → named_by (redirection_of n img q) ≡ t → ⊥
   pub apart : t ≡ l → ⊥
 
 module _ (n : ℕ) (img new : List ℕ) (l t v : ℕ) (ok : Accepted n img new l t) where
   -- the page's bitmap byte is no redirection byte and in no page
-  pub bytes-before : (k : ℕ) → k ≤ 32 → redirectionOf n (pageFilled n img t v new k) ≡ redirectionOf n img
+  pub bytes-before : (k : ℕ) → k ≤ 32 → redirection_of n (page_filled n img t v new k) ≡ redirection_of n img
   bytes-before k le =
-      stored-redirection n (bitCleared n img t v) new t k le ok.target ∙ redirection-kept n img (bitmapIndex n t) v (omega (arith, first-low UsedPages))
+      stored-redirection n (bit_cleared n img t v) new t k le ok.target ∙ redirection-kept n img (bitmap_index n t) v (omega (arith, first-low UsedPages))
 
-  pages-before : (k q : ℕ) → k ≤ 32 → q < n → (q ≡ t → ⊥) → pageBytes (pageFilled n img t v new k) q ≡ pageBytes img q
+  pages-before : (k q : ℕ) → k ≤ 32 → q < n → (q ≡ t → ⊥) → page_bytes (page_filled n img t v new k) q ≡ page_bytes img q
   pages-before k q le lt d =
-      stored_other n (bitCleared n img t v) new t k q le d ∙ page-kept img (bitmapIndex n t) v q (inr (omega arith))
+      stored_other n (bit_cleared n img t v) new t k q le d ∙ page-kept img (bitmap_index n t) v q (inr (omega arith))
 
   -- the final page of another page is a page of the chip, and is not t
   ends-elsewhere : (q f h : ℕ) → q < n → (q ≡ t → ⊥) → walk_of n img q ≡ final f h → (f < n) × (f ≡ t → ⊥)
   unfolding walk_of
   ends-elsewhere q f h lt d w =
-      let e : EndsFinal (redirectionOf n img) n q f h = (final-means (redirectionOf n img) n q f h lt).0 w in
-      (final-below n (redirectionOf n img) q f h lt e, λ z. d (only-itself n (redirectionOf n img) t ok.target-unnamed q h lt (rw z at e)))
+      let e : EndsFinal (redirection_of n img) n q f h = (final-means (redirection_of n img) n q f h lt).0 w in
+      (final-below n (redirection_of n img) q f h lt e, λ z. d (only-itself n (redirection_of n img) t ok.target-unnamed q h lt (rw z at e)))
 
   -- until the redirection byte is written: every page but t reads as before
-  pub reads_before : (k q : ℕ) → k ≤ 32 → q < n → (q ≡ t → ⊥) → read_of n (pageFilled n img t v new k) q ≡ read_of n img q
+  pub reads_before : (k q : ℕ) → k ≤ 32 → q < n → (q ≡ t → ⊥) → read_of n (page_filled n img t v new k) q ≡ read_of n img q
   unfolding walk_of
   reads_before k q le lt d =
-      same_read img (pageFilled n img t v new k) n q (ap (λ b. walkBy b n q) (bytes-before k le))
+      same_read img (page_filled n img t v new k) n q (ap (λ b. walk_by b n q) (bytes-before k le))
       (λ f h w. let e = ends-elsewhere q f h lt d w in pages-before k f le e.0 e.1)
 
   -- the redirection bytes before and after
-  relinked : Relinked n (redirectionOf n img) (redirectionOf n (linked n img l t v new)) l t
-  unfolding redirectionOf
+  relinked : Relinked n (redirection_of n img) (redirection_of n (linked n img l t v new)) l t
+  unfolding redirection_of
   relinked =
-      let m = pageFilled n img t v new 32 in
+      let m = page_filled n img t v new 32 in
       record {
         was-valid = ok.superseded-valid;
         target-valid = ok.target-valid;
@@ -67,23 +67,23 @@ module _ (n : ℕ) (img new : List ℕ) (l t v : ℕ) (ok : Accepted n img new l
         low = ok.target-low;
         high = omega arith;
         on-chip = ok.target;
-        now-names = get_or-set_same m (redirectionIndex n l) (255 - t) 0 (omega (arith, stored-length n (bitCleared n img t v) new t 32, length-set img (bitmapIndex n t) v));
-        elsewhere = λ q d. get_or-set_other m (redirectionIndex n l) (redirectionIndex n q) (255 - t) 0 (λ e. d (omega arith)) ∙ ap (λ b. b q) (bytes-before 32 (omega arith));
+        now-names = get_or-set_same m (redirection_index n l) (255 - t) 0 (omega (arith, stored-length n (bit_cleared n img t v) new t 32, length-set img (bitmap_index n t) v));
+        elsewhere = λ q d. get_or-set_other m (redirection_index n l) (redirection_index n q) (255 - t) 0 (λ e. d (omega arith)) ∙ ap (λ b. b q) (bytes-before 32 (omega arith));
       }
 
   -- the redirection byte is in no page
-  pages-after : (q : ℕ) → q < n → pageBytes (linked n img l t v new) q ≡ pageBytes (pageFilled n img t v new 32) q
-  pages-after q lt = page-kept (pageFilled n img t v new 32) (redirectionIndex n l) (255 - t) q (inr (omega arith))
+  pages-after : (q : ℕ) → q < n → page_bytes (linked n img l t v new) q ≡ page_bytes (page_filled n img t v new 32) q
+  pages-after q lt = page-kept (page_filled n img t v new 32) (redirection_index n l) (255 - t) q (inr (omega arith))
 
   -- afterwards the pages that ended at l read as the new page, with one hop more ..
   pub reads-moved : (q h : ℕ) → q < n → walk_of n img q ≡ final l h
       → read_of n (linked n img l t v new) q ≡ record { verdict = final t (suc h); bytes = new }
   unfolding walk_of
   reads-moved q h lt w =
-      let e : walk_of n (linked n img l t v new) q ≡ final t (suc h) = walk-moves n (redirectionOf n img) (redirectionOf n (linked n img l t v new)) l t relinked q h lt w in
-      let bs : bytesUnder (linked n img l t v new) (walk_of n (linked n img l t v new) q) ≡ new =
-      ap (bytesUnder (linked n img l t v new)) e ∙ pages-after t ok.target
-      ∙ stored-page n (bitCleared n img t v) new t (omega (arith, length-set img (bitmapIndex n t) v)) ok.long in
+      let e : walk_of n (linked n img l t v new) q ≡ final t (suc h) = walk-moves n (redirection_of n img) (redirection_of n (linked n img l t v new)) l t relinked q h lt w in
+      let bs : bytes_under (linked n img l t v new) (walk_of n (linked n img l t v new) q) ≡ new =
+      ap (bytes_under (linked n img l t v new)) e ∙ pages-after t ok.target
+      ∙ stored-page n (bit_cleared n img t v) new t (omega (arith, length-set img (bitmap_index n t) v)) ok.long in
       λ i. record { verdict = e i; bytes = bs i }
 
   -- .. and every other page but t as it did
@@ -92,5 +92,5 @@ module _ (n : ℕ) (img new : List ℕ) (l t v : ℕ) (ok : Accepted n img new l
   unfolding walk_of
   reads-stayed q lt d other =
       same_read img (linked n img l t v new) n q
-      (walk-stays n (redirectionOf n img) (redirectionOf n (linked n img l t v new)) l t relinked q lt other)
+      (walk-stays n (redirection_of n img) (redirection_of n (linked n img l t v new)) l t relinked q lt other)
       (λ f h w. let e = ends-elsewhere q f h lt d w in pages-after f e.0 ∙ pages-before 32 f (omega arith) e.0 e.1)

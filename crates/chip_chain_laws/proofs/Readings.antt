@@ -7,12 +7,12 @@ use native.Mathlib.Numerals.{add-one}
 use lib.ListN.{length}
 use lib.Dec.{eqb}
 use borrow.Author.Tests.{eqb-true, eqb-false}
-use Rattle.chip_memory.specs.Layout.{imageSize}
-use Rattle.chip_memory.specs.Image.{redirectionOf}
+use Rattle.chip_memory.specs.Layout.{image_size}
+use Rattle.chip_memory.specs.Image.{redirection_of}
 use Rattle.base_types.specs.Verdict.{final}
 use Rattle.chip_chain.specs.Walk.{walk_of}
 use Rattle.chip_chain.specs.Free.{Free}
-use Rattle.chip_chain_laws.specs.Update.{read_of, linked, movedBy, moved}
+use Rattle.chip_chain_laws.specs.Update.{read_of, linked, moved_by, moved}
 use Rattle.base_types.specs.declared.address.Page.{Page}
 use Rattle.base_types.specs.declared.verdict.Verdict.{Verdict}
 use Rattle.base_types.specs.declared.verdict.Verdict.TheVariants.{Final, Loop, Outside}
@@ -22,21 +22,21 @@ use Rattle.chip_chain.proofs.Frees.{named-elsewhere}
 use Rattle.chip_chain_laws.proofs.Images.{Accepted, reads-moved, reads-stayed}
 
 -- an update that the start accepts: l is where p ends, and t a free page other than l
-pub accepted : (n : ℕ) (img new : List ℕ) (p l h t : ℕ) → length img ≡ imageSize n → n ≤ 256 → length new ≡ 32 → p < n
+pub accepted : (n : ℕ) (img new : List ℕ) (p l h t : ℕ) → length img ≡ image_size n → n ≤ 256 → length new ≡ 32 → p < n
     → walk_of n img p ≡ final l h → t < n → Free n img t → (t ≡ l → ⊥) → Accepted n img new l t
 unfolding walk_of
 accepted n img new p l h t size count long lt w on-chip free apart =
-    let e = (final-means (redirectionOf n img) n p l h lt).0 w in
+    let e = (final-means (redirection_of n img) n p l h lt).0 w in
     record {
       size = size;
       count = count;
       long = long;
-      superseded = final-below n (redirectionOf n img) p l h lt e;
+      superseded = final-below n (redirection_of n img) p l h lt e;
       superseded-valid = e.valid;
       target = on-chip;
       target-low = free.low;
       target-valid = free.valid;
-      target-unnamed = λ q lq. named-elsewhere (redirectionOf n img q) t free.low (free.unnamed q lq);
+      target-unnamed = λ q lq. named-elsewhere (redirection_of n img q) t free.low (free.unnamed q lq);
       apart = apart;
     }
 
@@ -51,7 +51,7 @@ module _ (n : ℕ) (img new : List ℕ) (l t v : ℕ) (ok : Accepted n img new l
           reads-stayed n img new l t v ok q lt d
           (λ k z. let p : ◌≡◌ {A = Page} f (record { 0 = l }) = cc in eqb-false _ _ s (ap (λ (x : Page). x.0) p))
 
-      go : (w : Verdict) → walk_of n img q ≡ w → read_of n (linked n img l t v new) q ≡ movedBy l t new (read_of n img q) w
+      go : (w : Verdict) → walk_of n img q ≡ w → read_of n (linked n img l t v new) q ≡ moved_by l t new (read_of n img q) w
       go (Final f h) e = at-final f h e (eqb f.0 l) refl
       go Loop e = reads-stayed n img new l t v ok q lt d (λ h z. final-not-loop (sym z ∙ e))
       go (Outside x) e = reads-stayed n img new l t v ok q lt d (λ h z. final-not-outside (sym z ∙ e))

@@ -5,7 +5,7 @@ use mathlib.Core.Logic.{◌⊎◌, inl, inr}
 use native.Mathlib.Omega.{arith}
 use native.Mathlib.Nat.{le_of_suc-le-suc, eq-or-lt_of_le}
 use Rattle.base_types.specs.Verdict.{final}
-use Rattle.chip_chain.specs.Walk.{named_by, walkBy}
+use Rattle.chip_chain.specs.Walk.{named_by, walk_by}
 use Rattle.chip_chain.specs.Chain.{met, Inside, EndsFinal, EndsOutside, Endless}
 use Rattle.chip_chain.proofs.Walks.{Ends, at-final, at-outside, at_none, ends, walk-final, walk-outside, walk_loop, met-suc, final-means}
 
@@ -80,15 +80,15 @@ module _ (n : ℕ) (b c : ℕ → ℕ) (l t : ℕ) (r : Relinked n b c l t) wher
   same-endless p e k = before p (suc k) (λ i lt. e i) k (omega arith)
 
   -- the walks: those that ended at l end at t, with one hop more; all others are as they were
-  pub walk-moves : (p h : ℕ) → p < n → walkBy b n p ≡ final l h → walkBy c n p ≡ final t (suc h)
+  pub walk-moves : (p h : ℕ) → p < n → walk_by b n p ≡ final l h → walk_by c n p ≡ final t (suc h)
   walk-moves p h lt e = walk-final c n lt (moves p h ((final-means b n p l h lt).0 e))
 
-  pub walk-stays : (p : ℕ) → p < n → ((h : ℕ) → walkBy b n p ≡ final l h → ⊥) → walkBy c n p ≡ walkBy b n p
+  pub walk-stays : (p : ℕ) → p < n → ((h : ℕ) → walk_by b n p ≡ final l h → ⊥) → walk_by c n p ≡ walk_by b n p
   walk-stays p lt d = go (ends b n p lt)
     where
-      go : Ends b n p → walkBy c n p ≡ walkBy b n p
+      go : Ends b n p → walk_by c n p ≡ walk_by b n p
       go (at-final f h e) =
-          let w : walkBy b n p ≡ final f h = walk-final b n lt e in
+          let w : walk_by b n p ≡ final f h = walk-final b n lt e in
           walk-final c n lt (same-final p f h (λ q. d h (w ∙ ap (λ x. final x h) q)) e) ∙ sym w
       go (at-outside x e) = walk-outside c n lt (same-outside p x e) ∙ sym (walk-outside b n lt e)
       go (at_none e) = walk_loop c n (same-endless p e) ∙ sym (walk_loop b n e)

@@ -1,11 +1,11 @@
 // The chip, driven by bus events.
 ghost use Rattle.std.specs.Prelude.{◌≡◌, true, ◌&&◌, length, set};
 ghost use Rattle.base_types.specs.Bits.{one};
-ghost use Rattle.base_types.specs.Outcome.{judgedOutcome, inOrder};
-ghost use Rattle.chip_memory.specs.Layout.{pageCount, isImage};
-ghost use Rattle.chip_entries.specs.Run.{areEvents, replyBytes, eventsAt, chipWith, run, runAnswer, ranChip, ranReplies};
-ghost use Rattle.chip_entries.specs.Event.{powerUp, afterRom, stageSlot, stageBit, stagePulse, pulseImageOf, chipInRange, replyOf, imageAfter, stageAfter};
-ghost use Rattle.chip_entries.specs.Event.{eventOutcome, eventAnswer, eventState, eventImage};
+ghost use Rattle.base_types.specs.Outcome.{judged_outcome, in_order};
+ghost use Rattle.chip_memory.specs.Layout.{page_count, is_image};
+ghost use Rattle.chip_entries.specs.Run.{are_events, reply_bytes, events_at, chip_with, run, run_answer, ran_chip, ran_replies};
+ghost use Rattle.chip_entries.specs.Event.{power_up, after_rom, stage_slot, stage_bit, stage_pulse, pulse_image_of, chip_in_range, reply_of, image_after, stage_after};
+ghost use Rattle.chip_entries.specs.Event.{event_outcome, event_answer, event_state, event_image};
 
 use base_types::address::Page;
 use base_types::refusal::{Judged, Refusal};
@@ -45,7 +45,7 @@ pub struct Stepped {
 
 // A chip at power-up: silent until reset.
 pub fn power_up(number: [u8; 8]) -> State
-    ensures { result ≡ powerUp number }
+    ensures { result ≡ power_up number }
 {
     State {
         stage: Stage::Memory(MemoryStage::Silent),
@@ -55,7 +55,7 @@ pub fn power_up(number: [u8; 8]) -> State
 
 // The stage after a slot of a ROM function.
 fn after_rom(outcome: RomOutcome) -> Stage
-    ensures { result ≡ afterRom outcome }
+    ensures { result ≡ after_rom outcome }
 {
     match outcome {
         RomOutcome::Stays(r) => Stage::Rom(r),
@@ -65,7 +65,7 @@ fn after_rom(outcome: RomOutcome) -> Stage
 }
 
 fn slot(last: Page, stage: Stage, bit: bool, number: [u8; 8], image: &[u8]) -> Stage
-    ensures { result ≡ stageSlot (pageCount last) stage bit number image.now }
+    ensures { result ≡ stage_slot (page_count last) stage bit number image.now }
 {
     match stage {
         Stage::Rom(r) => after_rom(chip_rom::slot(r, bit, number)),
@@ -75,7 +75,7 @@ fn slot(last: Page, stage: Stage, bit: bool, number: [u8; 8], image: &[u8]) -> S
 
 // The chip's bit in a slot, 1 where it is not sending.
 fn chip_bit(stage: Stage, number: [u8; 8]) -> bool
-    ensures { result ≡ stageBit stage number }
+    ensures { result ≡ stage_bit stage number }
 {
     match stage {
         Stage::Rom(r) => chip_rom::chip_bit(r, number),
@@ -84,8 +84,8 @@ fn chip_bit(stage: Stage, number: [u8; 8]) -> bool
 }
 
 fn pulse(last: Page, stage: Stage, image: &mut [u8]) -> Stage
-    ensures image { image.new ≡ pulseImageOf (pageCount last) stage image.old }
-    ensures stage { result ≡ stagePulse (pageCount last) stage image.new }
+    ensures image { image.new ≡ pulse_image_of (page_count last) stage image.old }
+    ensures stage { result ≡ stage_pulse (page_count last) stage image.new }
 {
     match stage {
         Stage::Rom(r) => Stage::Rom(r),
@@ -95,7 +95,7 @@ fn pulse(last: Page, stage: Stage, image: &mut [u8]) -> Stage
 
 // The fields of a stage are within their ranges.
 fn in_range(last: Page, stage: Stage) -> bool
-    ensures { result ≡ chipInRange (pageCount last) stage }
+    ensures { result ≡ chip_in_range (page_count last) stage }
 {
     match stage {
         Stage::Rom(r) => chip_rom::in_range(r),
@@ -104,7 +104,7 @@ fn in_range(last: Page, stage: Stage) -> bool
 }
 
 fn reply(stage: Stage, event: Event, number: [u8; 8]) -> bool
-    ensures { result ≡ replyOf stage event number }
+    ensures { result ≡ reply_of stage event number }
 {
     match event {
         Event::Reset => false,
@@ -115,8 +115,8 @@ fn reply(stage: Stage, event: Event, number: [u8; 8]) -> bool
 }
 
 fn advance(last: Page, stage: Stage, event: Event, number: [u8; 8], image: &mut [u8]) -> Stage
-    ensures image { image.new ≡ imageAfter (pageCount last) stage event image.old }
-    ensures stage { result ≡ stageAfter (pageCount last) stage event number image.new }
+    ensures image { image.new ≡ image_after (page_count last) stage event image.old }
+    ensures stage { result ≡ stage_after (page_count last) stage event number image.new }
 {
     match event {
         Event::Reset => Stage::Rom(RomStage::Command(0, 0)),
@@ -128,7 +128,7 @@ fn advance(last: Page, stage: Stage, event: Event, number: [u8; 8], image: &mut 
 
 // What every entry on a chip judges: the image, the stage and what else has a range, and the other buffers' lengths. Refused: 1, 2, 10.
 fn judge(image: &[u8], stage: Stage, ranges: bool, lengths: bool) -> Judged
-    ensures { judgedOutcome result ≡ inOrder (isImage 64 image.now) (chipInRange 64 stage && ranges) lengths }
+    ensures { judged_outcome result ≡ in_order (is_image 64 image.now) (chip_in_range 64 stage && ranges) lengths }
 {
     let last = Page(layout::DS2505);
     refusal::in_order(
@@ -140,9 +140,9 @@ fn judge(image: &[u8], stage: Stage, ranges: bool, lengths: bool) -> Judged
 
 // One event. Refused: 1, 2; the state is then the same and the image untouched.
 pub fn event(state: State, event: Event, image: &mut [u8]) -> Stepped
-    ensures answer { eventOutcome result.answer ≡ eventAnswer 64 state event image.old }
-    ensures state { result.state ≡ eventState 64 state event image.old }
-    ensures image { image.new ≡ eventImage 64 state event image.old }
+    ensures answer { event_outcome result.answer ≡ event_answer 64 state event image.old }
+    ensures state { result.state ≡ event_state 64 state event image.old }
+    ensures image { image.new ≡ event_image 64 state event image.old }
 {
     let stage = state.stage;
     let number = state.number;
@@ -175,7 +175,7 @@ pub struct Ran {
 
 // All bytes are those of events.
 pub fn are_events(codes: &[u8]) -> bool
-    ensures { result ≡ areEvents codes.now }
+    ensures { result ≡ are_events codes.now }
 {
     for i in 0..codes.len() {
         if !bus_events::is_event(codes[i]) {
@@ -193,11 +193,11 @@ fn run_within(
     image: &mut [u8],
     replies: &mut [u8],
 ) -> Stage
-    requires image_value { isImage 64 image.old ≡ true }
-    requires start_value { chipInRange 64 start ≡ true }
+    requires image_value { is_image 64 image.old ≡ true }
+    requires start_value { chip_in_range 64 start ≡ true }
     requires replies_len { length replies.old ≡ length codes.now }
-    ensures chip { chipWith result number image.new ≡ run 64 (chipWith start number image.old) (eventsAt codes.now) }
-    ensures replies { replies.new ≡ replyBytes 64 (chipWith start number image.old) codes.now }
+    ensures chip { chip_with result number image.new ≡ run 64 (chip_with start number image.old) (events_at codes.now) }
+    ensures replies { replies.new ≡ reply_bytes 64 (chip_with start number image.old) codes.now }
 {
     let mut stage = start;
     let mut i = 0;
@@ -213,10 +213,10 @@ fn run_within(
 // So many events, a byte each (bus_events::event_of), with a byte for each reply. Refused: 1, 2, 10; state, image and replies are then untouched.
 // The state and the image are judged once: what it does is what the events one by one do.
 pub fn run(state: State, codes: &[u8], image: &mut [u8], replies: &mut [u8]) -> Ran
-    ensures answer { judgedOutcome result.answer ≡ runAnswer 64 state codes.now image.old replies.old }
-    ensures state { result.state ≡ (ranChip 64 state codes.now image.old replies.old).state }
-    ensures image { image.new ≡ (ranChip 64 state codes.now image.old replies.old).image }
-    ensures replies { replies.new ≡ ranReplies 64 state codes.now image.old replies.old }
+    ensures answer { judged_outcome result.answer ≡ run_answer 64 state codes.now image.old replies.old }
+    ensures state { result.state ≡ (ran_chip 64 state codes.now image.old replies.old).state }
+    ensures image { image.new ≡ (ran_chip 64 state codes.now image.old replies.old).image }
+    ensures replies { replies.new ≡ ran_replies 64 state codes.now image.old replies.old }
 {
     let stage = state.stage;
     let number = state.number;

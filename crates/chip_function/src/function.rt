@@ -1,7 +1,7 @@
 // A slot and a pulse.
 ghost use Rattle.std.specs.Prelude.{◌≡◌};
-ghost use Rattle.chip_memory.specs.Layout.{pageCount};
-ghost use Rattle.chip_function.specs.Functions.{memory_slot, memoryBit, pulseImage, pulseStage};
+ghost use Rattle.chip_memory.specs.Layout.{page_count};
+ghost use Rattle.chip_function.specs.Functions.{memory_slot, memory_bit, pulse_image, pulse_stage};
 
 use crate::{receive, send};
 use base_types::address::Page;
@@ -11,7 +11,7 @@ use chip_stage::write;
 
 // One slot. One on an armed chip silences it.
 pub fn slot(last: Page, stage: MemoryStage, bit: bool, image: &[u8]) -> MemoryStage
-    ensures { result ≡ memory_slot (pageCount last) stage bit image.now }
+    ensures { result ≡ memory_slot (page_count last) stage bit image.now }
 {
     match stage {
         MemoryStage::Silent => MemoryStage::Silent,
@@ -25,7 +25,7 @@ pub fn slot(last: Page, stage: MemoryStage, bit: bool, image: &[u8]) -> MemorySt
 
 // The chip's bit in a slot, 1 where it is not sending.
 pub fn chip_bit(stage: MemoryStage) -> bool
-    ensures { result ≡ memoryBit stage }
+    ensures { result ≡ memory_bit stage }
 {
     match stage {
         MemoryStage::Silent => true,
@@ -37,8 +37,8 @@ pub fn chip_bit(stage: MemoryStage) -> bool
 
 // A pulse. Where the chip is not armed it changes nothing.
 pub fn pulse(last: Page, stage: MemoryStage, image: &mut [u8]) -> MemoryStage
-    ensures image { image.new ≡ pulseImage (pageCount last) stage image.old }
-    ensures stage { result ≡ pulseStage (pageCount last) stage image.new }
+    ensures image { image.new ≡ pulse_image (page_count last) stage image.old }
+    ensures stage { result ≡ pulse_stage (page_count last) stage image.new }
 {
     match stage {
         MemoryStage::Silent => MemoryStage::Silent,

@@ -1,14 +1,14 @@
 // The ranges of the fields of a stage.
 ghost use Rattle.std.specs.Prelude.{◌≡◌};
-ghost use Rattle.chip_memory.specs.Layout.{pageCount};
-ghost use Rattle.chip_function.specs.Ranges.{incomingInRange, outgoingInRange, outgoingWidth, receivingInRange, sendInRange, memoryInRange};
+ghost use Rattle.chip_memory.specs.Layout.{page_count};
+ghost use Rattle.chip_function.specs.Ranges.{incoming_in_range, outgoing_in_range, outgoing_width, receiving_in_range, send_in_range, memory_in_range};
 
 use base_types::address::{Page, Space};
 use chip_stage::limits;
 use chip_stage::stage::{Incoming, MemoryStage, Outgoing};
 
 fn incoming_in_range(last: Page, i: Incoming) -> bool
-    ensures { result ≡ incomingInRange (pageCount last) i }
+    ensures { result ≡ incoming_in_range (page_count last) i }
 {
     match i {
         Incoming::Command => true,
@@ -19,7 +19,7 @@ fn incoming_in_range(last: Page, i: Incoming) -> bool
 }
 
 fn outgoing_in_range(last: Page, o: Outgoing) -> bool
-    ensures { result ≡ outgoingInRange (pageCount last) o }
+    ensures { result ≡ outgoing_in_range (page_count last) o }
 {
     match o {
         Outgoing::MemoryData(a) => limits::is_address(last, Space::Data, a.0),
@@ -37,7 +37,7 @@ fn outgoing_in_range(last: Page, o: Outgoing) -> bool
 
 // How many bits it has.
 fn width(o: Outgoing) -> u8
-    ensures { result ≡ outgoingWidth o }
+    ensures { result ≡ outgoing_width o }
 {
     match o {
         Outgoing::MemoryData(_) => 8,
@@ -54,7 +54,7 @@ fn width(o: Outgoing) -> u8
 }
 
 fn receive_in_range(last: Page, i: Incoming, k: u8) -> bool
-    ensures { result ≡ receivingInRange (pageCount last) i k }
+    ensures { result ≡ receiving_in_range (page_count last) i k }
 {
     if k < 8 {
         incoming_in_range(last, i)
@@ -64,7 +64,7 @@ fn receive_in_range(last: Page, i: Incoming, k: u8) -> bool
 }
 
 fn send_in_range(last: Page, o: Outgoing, left: u8) -> bool
-    ensures { result ≡ sendInRange (pageCount last) o left }
+    ensures { result ≡ send_in_range (page_count last) o left }
 {
     if left < 1 {
         return false;
@@ -76,7 +76,7 @@ fn send_in_range(last: Page, o: Outgoing, left: u8) -> bool
 }
 
 pub fn in_range(last: Page, stage: MemoryStage) -> bool
-    ensures { result ≡ memoryInRange (pageCount last) stage }
+    ensures { result ≡ memory_in_range (page_count last) stage }
 {
     match stage {
         MemoryStage::Silent => true,

@@ -1,7 +1,7 @@
 // Bits that come in.
 ghost use Rattle.std.specs.Prelude.{◌≡◌, ◌+◌, ◌*◌};
-ghost use Rattle.chip_memory.specs.Layout.{pageCount};
-ghost use Rattle.chip_function.specs.Functions.{beginning, memoryCommand, addressed, startedAt, received, receiveBit};
+ghost use Rattle.chip_memory.specs.Layout.{page_count};
+ghost use Rattle.chip_function.specs.Functions.{beginning, memory_command, addressed, started_at, received, receive_bit};
 
 use base_types::address::{Page, Space};
 use base_types::write_mode::WriteMode;
@@ -17,7 +17,7 @@ fn begin(c: Command, byte: u8) -> MemoryStage
 
 // A whole memory command byte is in.
 fn command(byte: u8) -> MemoryStage
-    ensures { result ≡ memoryCommand byte }
+    ensures { result ≡ memory_command byte }
 {
     match byte {
         0xF0 => begin(Command::ReadMemory, 0xF0),
@@ -40,7 +40,7 @@ fn address(low: u8, high: u8) -> u16
 
 // A command and its whole address are in, and the CRC has taken them in.
 fn address_in(last: Page, c: Command, a: u16, crc: u16, image: &[u8]) -> MemoryStage
-    ensures { result ≡ addressed (pageCount last) c a crc image.now }
+    ensures { result ≡ addressed (page_count last) c a crc image.now }
 {
     match c {
         Command::ReadMemory => read::start_memory(last, a, crc, image),
@@ -52,7 +52,7 @@ fn address_in(last: Page, c: Command, a: u16, crc: u16, image: &[u8]) -> MemoryS
 
 // A command starts at the address as the chip keeps it, and the CRC takes in the high byte as kept, not as sent.
 fn start_at(last: Page, c: Command, a: u16, crc: u16, image: &[u8]) -> MemoryStage
-    ensures { result ≡ startedAt (pageCount last) c a crc image.now }
+    ensures { result ≡ started_at (page_count last) c a crc image.now }
 {
     let kept = limits::kept(last, a);
     address_in(
@@ -66,7 +66,7 @@ fn start_at(last: Page, c: Command, a: u16, crc: u16, image: &[u8]) -> MemorySta
 
 // A whole byte is in.
 fn byte_in(last: Page, i: Incoming, byte: u8, crc: u16, image: &[u8]) -> MemoryStage
-    ensures { result ≡ received (pageCount last) i byte crc image.now }
+    ensures { result ≡ received (page_count last) i byte crc image.now }
 {
     match i {
         Incoming::Command => command(byte),
@@ -83,7 +83,7 @@ fn byte_in(last: Page, i: Incoming, byte: u8, crc: u16, image: &[u8]) -> MemoryS
 
 // One bit more, after k of them; the register now holds v.
 pub fn bit_in(last: Page, i: Incoming, k: u8, v: u8, crc: u16, image: &[u8]) -> MemoryStage
-    ensures { result ≡ receiveBit (pageCount last) i k v crc image.now }
+    ensures { result ≡ receive_bit (page_count last) i k v crc image.now }
 {
     if k < 7 {
         MemoryStage::Receive(i, k + 1, v, crc)

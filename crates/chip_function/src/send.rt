@@ -1,7 +1,7 @@
 // Bits that go out.
 ghost use Rattle.std.specs.Prelude.{◌≡◌};
-ghost use Rattle.chip_memory.specs.Layout.{pageCount};
-ghost use Rattle.chip_function.specs.Functions.{sent, sendBit};
+ghost use Rattle.chip_memory.specs.Layout.{page_count};
+ghost use Rattle.chip_function.specs.Functions.{sent, send_bit};
 
 use base_types::address::Page;
 use base_types::write_mode::WriteMode;
@@ -10,7 +10,7 @@ use chip_stage::{read, stage, write};
 
 // All bits of something are out.
 fn all_out(last: Page, o: Outgoing, crc: u16, image: &[u8]) -> MemoryStage
-    ensures { result ≡ sent (pageCount last) o crc image.now }
+    ensures { result ≡ sent (page_count last) o crc image.now }
 {
     match o {
         Outgoing::MemoryData(a) => read::after_memory(last, a, crc, image),
@@ -28,7 +28,7 @@ fn all_out(last: Page, o: Outgoing, crc: u16, image: &[u8]) -> MemoryStage
 
 // One bit of v goes out, of which so many were left.
 pub fn bit_out(last: Page, o: Outgoing, left: u8, v: u16, crc: u16, image: &[u8]) -> MemoryStage
-    ensures { result ≡ sendBit (pageCount last) o left v crc image.now }
+    ensures { result ≡ send_bit (page_count last) o left v crc image.now }
 {
     if 1 < left {
         MemoryStage::Send(o, left - 1, v >> 1, crc)

@@ -11,56 +11,56 @@ use Rattle.base_types.specs.Bits.{bits_of}
 use Rattle.base_types.specs.declared.address.Space.{Space}
 use Rattle.base_types.specs.declared.address.Space.TheVariants.{Data, Status}
 use Rattle.base_types.proofs.Values.{bits-tell}
-use Rattle.base_crc.specs.Crc.{crcBytes, crc16Byte, crc16From, crc16Of, crc16Loaded, crc16Word}
-use Rattle.base_crc.specs.Polynomial.{crc16Polynomial}
+use Rattle.base_crc.specs.Crc.{crc_bytes, crc16_byte, crc16_from, crc16_of, crc16_loaded, crc16_word}
+use Rattle.base_crc.specs.Polynomial.{crc16_polynomial}
 use Rattle.base_crc.proofs.Distinct.{registers-tell, bytes-tell}
 use Rattle.base_crc.proofs.Runs.{bytes_lt}
-use Rattle.chip_stage.specs.Limits.{limitOf, addressBits, keptAddress}
-use Rattle.chip_function_laws.specs.Streams.{crcOf, header}
+use Rattle.chip_stage.specs.Limits.{limit_of, address_bits, kept_address}
+use Rattle.chip_function_laws.specs.Streams.{crc_of, header}
 use Rattle.chip_function_laws.specs.Addresses.{AddressLaws}
 
 -- the CRC-16 of bytes, as it is sent, tells their registers apart
-words-tell : (r s : ℕ) → r < 65536 → s < 65536 → bits_of 16 (crc16Word r) ≡ bits_of 16 (crc16Word s) → r ≡ s
+words-tell : (r s : ℕ) → r < 65536 → s < 65536 → bits_of 16 (crc16_word r) ≡ bits_of 16 (crc16_word s) → r ≡ s
 words-tell r s hr hs e =
-    let w : crc16Word r ≡ crc16Word s = bits-tell 16 (crc16Word r) (crc16Word s) (omega arith) (omega arith) e in
+    let w : crc16_word r ≡ crc16_word s = bits-tell 16 (crc16_word r) (crc16_word s) (omega arith) (omega arith) e in
     omega arith
 
-crc-lt : (r : ℕ) (bytes : List ℕ) → r < 65536 → crc16From r bytes < 65536
-crc-lt r bytes h = bytes_lt crc16Polynomial 16 (lit< tt) bytes r h
+crc-lt : (r : ℕ) (bytes : List ℕ) → r < 65536 → crc16_from r bytes < 65536
+crc-lt r bytes h = bytes_lt crc16_polynomial 16 (lit< tt) bytes r h
 
 module _ (n : ℕ) where
   -- eleven bits, or thirteen
-  either : (P : ℕ → Type 0) → P 11 → P 13 → P (addressBits n)
-  unfolding addressBits
+  either : (P : ℕ → Type 0) → P 11 → P 13 → P (address_bits n)
+  unfolding address_bits
   either P p q = go (ltb 64 n)
     where
       go : (t : Bool) → P (cond t 13 11)
       go true = q
       go false = p
 
-  pub kept_low : (a : ℕ) → keptAddress n a % 256 ≡ a % 256
-  unfolding keptAddress
+  pub kept_low : (a : ℕ) → kept_address n a % 256 ≡ a % 256
+  unfolding kept_address
   kept_low a = either (λ k. a % 2 ^ k % 256 ≡ a % 256) (omega arith) (omega arith)
 
-  kept_word : (a : ℕ) → keptAddress n a < 65536
-  unfolding keptAddress
+  kept_word : (a : ℕ) → kept_address n a < 65536
+  unfolding kept_address
   kept_word a = either (λ k. a % 2 ^ k < 65536) (omega arith) (omega arith)
 
-  low : (a : ℕ) → a < 2 ^ addressBits n → keptAddress n a ≡ a
-  unfolding keptAddress
+  low : (a : ℕ) → a < 2 ^ address_bits n → kept_address n a ≡ a
+  unfolding kept_address
   low a lt = mod-eq_of_lt lt
 
   -- a kept address has no bit above the kept ones
-  below : (a : ℕ) → keptAddress n a < 2 ^ addressBits n
-  unfolding keptAddress
+  below : (a : ℕ) → kept_address n a < 2 ^ address_bits n
+  unfolding kept_address
   below a = either (λ k. a % 2 ^ k < 2 ^ k) (omega arith) (omega arith)
 
   -- both memories have addresses of so many bits only
-  limit-kept : n ≤ 256 → (space : Space) → limitOf n space ≤ 2 ^ addressBits n
-  unfolding addressBits limitOf
+  limit-kept : n ≤ 256 → (space : Space) → limit_of n space ≤ 2 ^ address_bits n
+  unfolding address_bits limit_of
   limit-kept le space = go (ltb 64 n) refl space
     where
-      go : (t : Bool) → ltb 64 n ≡ t → (space : Space) → limitOf n space ≤ 2 ^ cond t 13 11
+      go : (t : Bool) → ltb 64 n ≡ t → (space : Space) → limit_of n space ≤ 2 ^ cond t 13 11
       go true e Data = omega arith
       go true e Status = omega arith
       go false e Data = omega (arith, ltb-false 64 n e)
@@ -68,27 +68,27 @@ module _ (n : ℕ) where
 
   -- ---- what a master can tell
 
-  differs : (command a : ℕ) (bytes : List ℕ) → 2 ^ addressBits n ≤ a → a < 65536
-      → crcOf (header command (keptAddress n a) ++ bytes) ≡ crcOf (header command a ++ bytes) → ⊥
-  unfolding crcBytes
+  differs : (command a : ℕ) (bytes : List ℕ) → 2 ^ address_bits n ≤ a → a < 65536
+      → crc_of (header command (kept_address n a) ++ bytes) ≡ crc_of (header command a ++ bytes) → ⊥
+  unfolding crc_bytes
   differs command a bytes le la e =
-      let k = keptAddress n a in
-      let before = crc16Byte (crc16Byte 0 command) (a % 256) in
-      let same : crc16Of (header command k ++ bytes) ≡ crc16Of (header command a ++ bytes) =
+      let k = kept_address n a in
+      let before = crc16_byte (crc16_byte 0 command) (a % 256) in
+      let same : crc16_of (header command k ++ bytes) ≡ crc16_of (header command a ++ bytes) =
       words-tell _ _ (crc-lt 0 (header command k ++ bytes) (lit< tt)) (crc-lt 0 (header command a ++ bytes) (lit< tt)) e in
-      let whole : crc16From (crc16Byte before (k / 256)) bytes ≡ crc16From (crc16Byte before (a / 256)) bytes =
-      ap (λ (x : ℕ). crc16From (crc16Byte (crc16Byte (crc16Byte 0 command) x) (k / 256)) bytes) (sym (kept_low a)) ∙ same in
-      let registers : crc16Byte before (k / 256) ≡ crc16Byte before (a / 256) =
-      registers-tell crc16Polynomial 15 (lit≤ tt) (lit< tt) bytes _ _
+      let whole : crc16_from (crc16_byte before (k / 256)) bytes ≡ crc16_from (crc16_byte before (a / 256)) bytes =
+      ap (λ (x : ℕ). crc16_from (crc16_byte (crc16_byte (crc16_byte 0 command) x) (k / 256)) bytes) (sym (kept_low a)) ∙ same in
+      let registers : crc16_byte before (k / 256) ≡ crc16_byte before (a / 256) =
+      registers-tell crc16_polynomial 15 (lit≤ tt) (lit< tt) bytes _ _
       (crc-lt 0 (command ∷ a % 256 ∷ k / 256 ∷ []) (lit< tt)) (crc-lt 0 (command ∷ a % 256 ∷ a / 256 ∷ []) (lit< tt)) whole in
       let high : k / 256 ≡ a / 256 =
-      bytes-tell crc16Polynomial 15 (lit≤ tt) (lit< tt) before (k / 256) (a / 256) (lit≤ tt) (omega (arith, kept_word a)) (omega arith) registers in
+      bytes-tell crc16_polynomial 15 (lit≤ tt) (lit< tt) before (k / 256) (a / 256) (lit≤ tt) (omega (arith, kept_word a)) (omega arith) registers in
       omega (arith, high, kept_low a, below a)
 
   loaded : (x y byte : ℕ) → x < 65536 → y < 65536
-      → bits_of 16 (crc16Word (crc16Loaded x (byte ∷ []))) ≡ bits_of 16 (crc16Word (crc16Loaded y (byte ∷ []))) → x ≡ y
+      → bits_of 16 (crc16_word (crc16_loaded x (byte ∷ []))) ≡ bits_of 16 (crc16_word (crc16_loaded y (byte ∷ []))) → x ≡ y
   loaded x y byte hx hy e =
-      registers-tell crc16Polynomial 15 (lit≤ tt) (lit< tt) (byte ∷ []) x y hx hy
+      registers-tell crc16_polynomial 15 (lit≤ tt) (lit< tt) (byte ∷ []) x y hx hy
       (words-tell _ _ (crc-lt x (byte ∷ []) hx) (crc-lt y (byte ∷ []) hy) e)
 
 pub address-laws : (n : ℕ) → n ≤ 256 → AddressLaws n
@@ -96,7 +96,7 @@ address-laws n le =
     record {
       own = λ space a lt. low n a (lt_of_lt_of_le lt (limit-kept n le space));
       low = low n;
-      agrees = λ command a bytes lt. ap (λ (x : ℕ). crcOf (header command x ++ bytes)) (low n a lt);
+      agrees = λ command a bytes lt. ap (λ (x : ℕ). crc_of (header command x ++ bytes)) (low n a lt);
       differs = differs n;
       loaded = loaded n;
     }

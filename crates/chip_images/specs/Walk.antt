@@ -5,12 +5,12 @@ use Rattle.base_types.specs.declared.verdict.Verdict.{Verdict}
 use Rattle.chip_chain.specs.Walk.{walk_of}
 use Rattle.chip_images.specs.declared.walk.Walked.{Walked}
 use Rattle.chip_images.specs.declared.walk.Walked.TheVariants.{Refused, Ended}
-use Rattle.chip_images.specs.Page.{onPage}
+use Rattle.chip_images.specs.Page.{on_page}
 
-abbrev pub walkOutcome : Walked → Outcome Verdict
-walkOutcome (Refused r) = refusing r
-walkOutcome (Ended v) = accepted v
+abbrev pub walk_outcome : Walked → Outcome Verdict
+walk_outcome (Refused r) = refusing r
+walk_outcome (Ended v) = accepted v
 
 -- 1, 3, or the verdict
-unfoldable pub walkAnswer : ℕ → List ℕ → ℕ → Outcome Verdict
-walkAnswer n img p = onPage n img p (accepted (walk_of n img p))
+unfoldable pub walk_answer : ℕ → List ℕ → ℕ → Outcome Verdict
+walk_answer n img p = on_page n img p (accepted (walk_of n img p))

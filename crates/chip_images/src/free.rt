@@ -1,6 +1,6 @@
 // Free pages, and how many there are.
 ghost use Rattle.std.specs.Prelude.{◌≡◌};
-ghost use Rattle.chip_images.specs.Free.{freeOutcome, foundOutcome, freeAnswer, countsOutcome, countsAnswer};
+ghost use Rattle.chip_images.specs.Free.{free_outcome, found_outcome, free_answer, counts_outcome, counts_answer};
 
 use crate::page;
 use base_types::address::Page;
@@ -16,7 +16,7 @@ pub enum FreePage {
 
 // A page that was looked for. Refused: 8.
 fn found(page: Found) -> FreePage
-    ensures { freeOutcome result ≡ foundOutcome page }
+    ensures { free_outcome result ≡ found_outcome page }
 {
     match page {
         Found::At(p) => FreePage::At(p),
@@ -26,7 +26,7 @@ fn found(page: Found) -> FreePage
 
 // The lowest free page other than the one given. Refused: 1, 3, 8.
 pub fn lowest(image: &[u8], other: Page) -> FreePage
-    ensures { freeOutcome result ≡ freeAnswer 64 image.now other.0 }
+    ensures { free_outcome result ≡ free_answer 64 image.now other.0 }
 {
     match page::judge(image, other) {
         Judged::Refused(r) => FreePage::Refused(r),
@@ -52,7 +52,7 @@ pub enum Counted {
 
 // How many pages are redirected, and how many are free. Refused: 1.
 pub fn counts(image: &[u8]) -> Counted
-    ensures { countsOutcome result ≡ countsAnswer 64 image.now }
+    ensures { counts_outcome result ≡ counts_answer 64 image.now }
 {
     if !layout::is_image(image, Page(layout::DS2505)) {
         return Counted::Refused(Refusal::ImageLength);

@@ -1,7 +1,7 @@
 // A page's own 32 bytes.
 ghost use Rattle.std.specs.Prelude.{◌≡◌};
-ghost use Rattle.base_types.specs.Outcome.{judgedOutcome};
-ghost use Rattle.chip_images.specs.Page.{pageAnswer, pagePart, copyAnswer, copyBuffer};
+ghost use Rattle.base_types.specs.Outcome.{judged_outcome};
+ghost use Rattle.chip_images.specs.Page.{page_answer, page_part, copy_answer, copy_buffer};
 
 use base_types::address::Page;
 use base_types::refusal::{Judged, Refusal};
@@ -9,7 +9,7 @@ use chip_memory::layout;
 
 // Whether an image has a page. Refused: 1, 3.
 pub fn judge(image: &[u8], page: Page) -> Judged
-    ensures { judgedOutcome result ≡ pageAnswer 64 image.now page.0 }
+    ensures { judged_outcome result ≡ page_answer 64 image.now page.0 }
 {
     if !layout::is_image(image, Page(layout::DS2505)) {
         return Judged::Refused(Refusal::ImageLength);
@@ -22,7 +22,7 @@ pub fn judge(image: &[u8], page: Page) -> Judged
 
 // The page, as the part of the image that is its own 32 bytes; where judge refuses, the empty part.
 pub fn part(image: &[u8], page: Page) -> &[u8]
-    ensures { result.now ≡ pagePart 64 image.now page.0 }
+    ensures { result.now ≡ page_part 64 image.now page.0 }
 {
     match judge(image, page) {
         Judged::Refused(_) => &image[0..0],
@@ -32,8 +32,8 @@ pub fn part(image: &[u8], page: Page) -> &[u8]
 
 // The page into a buffer of 32 bytes. Refused: 1, 10, 3, and the buffer is then untouched.
 pub fn copy(image: &[u8], page: Page, buffer: &mut [u8]) -> Judged
-    ensures answer { judgedOutcome result ≡ copyAnswer 64 image.now page.0 buffer.old }
-    ensures buffer { buffer.new ≡ copyBuffer 64 image.now page.0 buffer.old }
+    ensures answer { judged_outcome result ≡ copy_answer 64 image.now page.0 buffer.old }
+    ensures buffer { buffer.new ≡ copy_buffer 64 image.now page.0 buffer.old }
 {
     if !layout::is_image(image, Page(layout::DS2505)) {
         return Judged::Refused(Refusal::ImageLength);

@@ -1,6 +1,6 @@
 // The walk from a page.
 ghost use Rattle.std.specs.Prelude.{◌≡◌};
-ghost use Rattle.chip_images.specs.Walk.{walkOutcome, walkAnswer};
+ghost use Rattle.chip_images.specs.Walk.{walk_outcome, walk_answer};
 
 use crate::page;
 use base_types::address::Page;
@@ -16,7 +16,7 @@ pub enum Walked {
 
 // How the walk from a page ends. Refused: 1, 3.
 pub fn walk(image: &[u8], page: Page) -> Walked
-    ensures { walkOutcome result ≡ walkAnswer 64 image.now page.0 }
+    ensures { walk_outcome result ≡ walk_answer 64 image.now page.0 }
 {
     match page::judge(image, page) {
         Judged::Refused(r) => Walked::Refused(r),

@@ -10,9 +10,9 @@ use native.Mathlib.Omega.{arith}
 use lib.ListN.{length, get_or, take, drop, set, length-take, length-drop, drop_of_length-le}
 use lib.Seq.{drop-cons, take_all, take-length, take-nil}
 use borrow.Author.Tests.{eq-eqb, ne_eqb}
-use Rattle.chip_memory.specs.Image.{pageBytes}
-use Rattle.chip_memory.specs.Layout.{imageSize}
-use Rattle.chip_memory.specs.Page.{isBlank, copied}
+use Rattle.chip_memory.specs.Image.{page_bytes}
+use Rattle.chip_memory.specs.Layout.{image_size}
+use Rattle.chip_memory.specs.Page.{is_blank, copied}
 
 -- ---- the part
 
@@ -25,8 +25,8 @@ cut k l e h = go (dec_lt k (length l))
     go (no le) = let w : e ≡ length l = omega arith in ap (λ (i : ℕ). take i l) w ∙ take-length l ∙ sym (take_all k l (omega arith))
 
 pub part_of : (img : List ℕ) (p start end : ℕ) → start ≡ min (32 * p) (length img) → end ≡ min (start + 32) (length img)
-    → take (end - start) (drop start img) ≡ pageBytes img p
-unfolding pageBytes
+    → take (end - start) (drop start img) ≡ page_bytes img p
+unfolding page_bytes
 part_of img p start end s e = go (dec_lt (32 * p) (length img))
   where
     go : Dec (32 * p < length img) → take (end - start) (drop start img) ≡ take 32 (drop (32 * p) img)
@@ -38,22 +38,22 @@ part_of img p start end s e = go (dec_lt (32 * p) (length img))
         let far : length img ≤ 32 * p = omega arith in
         ap (take (end - start)) (drop_of_length-le img past) ∙ take-nil (end - start) ∙ sym (ap (take 32) (drop_of_length-le img far))
 
-pub page-length : (n : ℕ) (img : List ℕ) (p : ℕ) → length img ≡ imageSize n → p < n → length (pageBytes img p) ≡ 32
-unfolding pageBytes
+pub page-length : (n : ℕ) (img : List ℕ) (p : ℕ) → length img ≡ image_size n → p < n → length (page_bytes img p) ≡ 32
+unfolding page_bytes
 page-length n img p e lt = simp (length-take, length-drop) (omega arith)
 
 -- ---- the blank test
 
-pub blank-next : (l : List ℕ) (i : ℕ) → i < length l → get_or l i 0 ≡ 255 → isBlank (drop (i + 1) l) ≡ isBlank (drop i l)
-unfolding isBlank
+pub blank-next : (l : List ℕ) (i : ℕ) → i < length l → get_or l i 0 ≡ 255 → is_blank (drop (i + 1) l) ≡ is_blank (drop i l)
+unfolding is_blank
 blank-next l i lt e = rw (add-one, drop-cons l i 0, eq-eqb _ _ e)
 
-pub blank-not : (l : List ℕ) (i : ℕ) → i < length l → (get_or l i 0 ≡ 255 → ⊥) → false ≡ isBlank (drop i l)
-unfolding isBlank
+pub blank-not : (l : List ℕ) (i : ℕ) → i < length l → (get_or l i 0 ≡ 255 → ⊥) → false ≡ is_blank (drop i l)
+unfolding is_blank
 blank-not l i lt d = rw (drop-cons l i 0, ne_eqb _ _ d)
 
-pub blank-end : (l : List ℕ) (i : ℕ) → length l ≤ i → true ≡ isBlank (drop i l)
-unfolding isBlank
+pub blank-end : (l : List ℕ) (i : ℕ) → length l ≤ i → true ≡ is_blank (drop i l)
+unfolding is_blank
 blank-end l i le = rw drop_of_length-le
 
 -- ---- the copy

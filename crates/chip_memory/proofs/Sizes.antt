@@ -10,18 +10,18 @@ use borrow.Author.Tests.{eqb-true, ltb-true, le-leb, lt-leb, lt-ltb, le-ltb}
 use native.Mathlib.Omega.{arith}
 use Rattle.chip_memory.specs.declared.layout.Field.{Field}
 use Rattle.chip_memory.specs.declared.layout.Field.TheVariants.{DataProtection, RedirectionProtection, UsedPages}
-use Rattle.chip_memory.specs.Layout.{firstAddress, imageSize, isImage, isPage}
+use Rattle.chip_memory.specs.Layout.{first_address, image_size, is_image, is_page}
 
-pub image-length : (n : ℕ) (img : List ℕ) → isImage n img ≡ true → length img ≡ imageSize n
-unfolding isImage
+pub image-length : (n : ℕ) (img : List ℕ) → is_image n img ≡ true → length img ≡ image_size n
+unfolding is_image
 image-length n img e = eqb-true _ _ e
 
-pub page-below : (n p : ℕ) → isPage n p ≡ true → p < n
-unfolding isPage
+pub page-below : (n p : ℕ) → is_page n p ≡ true → p < n
+unfolding is_page
 page-below n p e = ltb-true _ _ e
 
-pub first-low : (f : Field) → firstAddress f ≤ 64
-unfolding firstAddress
+pub first-low : (f : Field) → first_address f ≤ 64
+unfolding first_address
 first-low DataProtection = omega arith
 first-low RedirectionProtection = omega arith
 first-low UsedPages = omega arith

@@ -5,64 +5,64 @@ use Rattle.chip_memory.specs.declared.layout.Field.{Field}
 use Rattle.chip_memory.specs.declared.layout.Field.TheVariants.{DataProtection, RedirectionProtection, UsedPages}
 
 -- the page count of a chip, by its last page
-abbrev pub pageCount : Page → ℕ
-pageCount last = last.0 + 1
+abbrev pub page_count : Page → ℕ
+page_count last = last.0 + 1
 
 -- ---- sizes: the data, 32 bytes a page, and then the status addresses
 
-abbrev pub dataSize : ℕ → ℕ
-dataSize n = 32 * n
+abbrev pub data_size : ℕ → ℕ
+data_size n = 32 * n
 
 -- the redirection bytes, one for each page, come last
-abbrev pub redirectionBytes : ℕ
-redirectionBytes = 0x100
+abbrev pub redirection_bytes : ℕ
+redirection_bytes = 0x100
 
-abbrev pub statusSize : ℕ → ℕ
-statusSize n = redirectionBytes + n
+abbrev pub status_size : ℕ → ℕ
+status_size n = redirection_bytes + n
 
-abbrev pub imageSize : ℕ → ℕ
-imageSize n = dataSize n + statusSize n
+abbrev pub image_size : ℕ → ℕ
+image_size n = data_size n + status_size n
 
 -- an image of which nothing has been written
-abbrev pub blankImage : ℕ → List ℕ
-blankImage n = replicate (imageSize n) 0xFF
+abbrev pub blank_image : ℕ → List ℕ
+blank_image n = replicate (image_size n) 0xFF
 
 -- a list of bytes is as long as an image, and a number is that of a page
-unfoldable pub isImage : ℕ → List ℕ → Bool
-isImage n img = eqb (length img) (imageSize n)
+unfoldable pub is_image : ℕ → List ℕ → Bool
+is_image n img = eqb (length img) (image_size n)
 
-unfoldable pub isPage : ℕ → ℕ → Bool
-isPage n p = ltb p n
+unfoldable pub is_page : ℕ → ℕ → Bool
+is_page n p = ltb p n
 
 -- where the byte of a status address stands in the image
-abbrev pub statusIndex : ℕ → ℕ → ℕ
-statusIndex n a = dataSize n + a
+abbrev pub status_index : ℕ → ℕ → ℕ
+status_index n a = data_size n + a
 
 -- ---- the fields of the status memory, by their first address
 
 -- Three fields of bits. Bit p modulo 8 of byte p divided by 8 is for page p: 0 = its data are protected, its redirection byte is
 -- protected, it is used.
-unfoldable pub firstAddress : Field → ℕ
-firstAddress DataProtection = 0x000
-firstAddress RedirectionProtection = 0x020
-firstAddress UsedPages = 0x040
+unfoldable pub first_address : Field → ℕ
+first_address DataProtection = 0x000
+first_address RedirectionProtection = 0x020
+first_address UsedPages = 0x040
 
 -- how many bytes a field of bits has
-abbrev pub fieldSize : ℕ → ℕ
-fieldSize n = n / 8
+abbrev pub field_size : ℕ → ℕ
+field_size n = n / 8
 
 -- the address a is one of the size addresses from first on
-unfoldable pub isWithin : ℕ → ℕ → ℕ → Bool
-isWithin first size a = cond (ltb a first) false (ltb (a - first) size)
+unfoldable pub is_within : ℕ → ℕ → ℕ → Bool
+is_within first size a = cond (ltb a first) false (ltb (a - first) size)
 
 -- the status address a holds something; all others are gaps
 unfoldable pub is_held : ℕ → ℕ → Bool
 is_held n a =
-    isWithin redirectionBytes n a
-    || (isWithin (firstAddress DataProtection) (fieldSize n) a
-    || (isWithin (firstAddress RedirectionProtection) (fieldSize n) a
-    || isWithin (firstAddress UsedPages) (fieldSize n) a))
+    is_within redirection_bytes n a
+    || (is_within (first_address DataProtection) (field_size n) a
+    || (is_within (first_address RedirectionProtection) (field_size n) a
+    || is_within (first_address UsedPages) (field_size n) a))
 
 -- document 01's figures: 2,048 bytes of data and 320 of status, 000h to 13Fh
-pub ds2505-sizes : (dataSize 64 ∷ statusSize 64 ∷ imageSize 64 ∷ fieldSize 64 ∷ []) ≡ (2048 ∷ 0x140 ∷ 2368 ∷ 8 ∷ [])
+pub ds2505-sizes : (data_size 64 ∷ status_size 64 ∷ image_size 64 ∷ field_size 64 ∷ []) ≡ (2048 ∷ 0x140 ∷ 2368 ∷ 8 ∷ [])
 ds2505-sizes = refl

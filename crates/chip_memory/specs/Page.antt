@@ -2,9 +2,9 @@
 use Rattle.std.specs.Prelude.{ℕ, Bool, true, ◌&&◌, List, [], ◌∷◌, eqb}
 
 -- they are all FFh
-unfoldable pub isBlank : List ℕ → Bool
-isBlank [] = true
-isBlank (b ∷ bs) = eqb b 0xFF && isBlank bs
+unfoldable pub is_blank : List ℕ → Bool
+is_blank [] = true
+is_blank (b ∷ bs) = eqb b 0xFF && is_blank bs
 
 -- a buffer with these bytes put over its first ones, as far as both go
 unfoldable pub copied : List ℕ → List ℕ → List ℕ

@@ -1,7 +1,7 @@
 // The bytes of an image, by their addresses.
 ghost use Rattle.std.specs.Prelude.{◌≡◌, get_or};
-ghost use Rattle.chip_memory.specs.Layout.{pageCount};
-ghost use Rattle.chip_memory.specs.Image.{dataByte, statusByte, targetByte, pageBit, redirectionOf};
+ghost use Rattle.chip_memory.specs.Layout.{page_count};
+ghost use Rattle.chip_memory.specs.Image.{data_byte, status_byte, target_byte, page_bit, redirection_of};
 
 use crate::layout;
 use crate::layout::Field;
@@ -17,7 +17,7 @@ pub fn byte_at(image: &[u8], i: usize) -> u8
 
 // The byte of a data address.
 pub fn data_byte(image: &[u8], last: Page, a: DataAddress) -> u8
-    ensures { result ≡ dataByte (pageCount last) image.now a.0 }
+    ensures { result ≡ data_byte (page_count last) image.now a.0 }
 {
     let i = a.0 as usize;
     if i < layout::data_size(last) {
@@ -29,7 +29,7 @@ pub fn data_byte(image: &[u8], last: Page, a: DataAddress) -> u8
 
 // The byte of a status address. A gap reads FFh.
 pub fn status_byte(image: &[u8], last: Page, a: StatusAddress) -> u8
-    ensures { result ≡ statusByte (pageCount last) image.now a.0 }
+    ensures { result ≡ status_byte (page_count last) image.now a.0 }
 {
     if layout::is_held(last, a) {
         byte_at(image, layout::status_index(last, a))
@@ -40,7 +40,7 @@ pub fn status_byte(image: &[u8], last: Page, a: StatusAddress) -> u8
 
 // The byte of either kind of address.
 pub fn target_byte(image: &[u8], last: Page, t: Target) -> u8
-    ensures { result ≡ targetByte (pageCount last) image.now t }
+    ensures { result ≡ target_byte (page_count last) image.now t }
 {
     match t {
         Target::Data(a) => data_byte(image, last, a),
@@ -50,7 +50,7 @@ pub fn target_byte(image: &[u8], last: Page, t: Target) -> u8
 
 // The bit of a page in a field of bits: bit p modulo 8 of byte p divided by 8.
 pub fn page_bit(image: &[u8], last: Page, field: Field, p: Page) -> bool
-    ensures { result ≡ pageBit (pageCount last) field image.now p.0 }
+    ensures { result ≡ page_bit (page_count last) field image.now p.0 }
 {
     let a = StatusAddress(layout::first_address(field) + (p.0 >> 3) as u16);
     bits::at(byte_at(image, layout::status_index(last, a)), p.0)
@@ -58,7 +58,7 @@ pub fn page_bit(image: &[u8], last: Page, field: Field, p: Page) -> bool
 
 // The redirection byte of a page.
 pub fn redirection_of(image: &[u8], last: Page, p: Page) -> Redirection
-    ensures { result.0 ≡ redirectionOf (pageCount last) image.now p.0 }
+    ensures { result.0 ≡ redirection_of (page_count last) image.now p.0 }
 {
     let a = StatusAddress(layout::REDIRECTION_BYTES + p.0 as u16);
     Redirection(byte_at(image, layout::status_index(last, a)))

@@ -1,6 +1,6 @@
 // Where the parts of an image stand: the data of all pages, then the status bytes.
 ghost use Rattle.std.specs.Prelude.{◌≡◌};
-ghost use Rattle.chip_memory.specs.Layout.{firstAddress, pageCount, dataSize, statusIndex, statusSize, imageSize, isImage, isPage, fieldSize, isWithin, is_held};
+ghost use Rattle.chip_memory.specs.Layout.{first_address, page_count, data_size, status_index, status_size, image_size, is_image, is_page, field_size, is_within, is_held};
 
 use base_types::address::{Page, StatusAddress};
 
@@ -20,7 +20,7 @@ pub enum Field {
 
 // The first status address of a field of bits.
 pub fn first_address(field: Field) -> u16
-    ensures { result ≡ firstAddress field }
+    ensures { result ≡ first_address field }
 {
     match field {
         Field::DataProtection => 0x000,
@@ -31,56 +31,56 @@ pub fn first_address(field: Field) -> u16
 
 // How many pages there are.
 pub fn page_count(last: Page) -> usize
-    ensures { result ≡ pageCount last }
+    ensures { result ≡ page_count last }
 {
     last.0 as usize + 1
 }
 
 // How many data bytes.
 pub fn data_size(last: Page) -> usize
-    ensures { result ≡ dataSize (pageCount last) }
+    ensures { result ≡ data_size (page_count last) }
 {
     32 * page_count(last)
 }
 
 // How many status addresses.
 pub fn status_size(last: Page) -> u16
-    ensures { result ≡ statusSize (pageCount last) }
+    ensures { result ≡ status_size (page_count last) }
 {
     REDIRECTION_BYTES + (last.0 as u16 + 1)
 }
 
 // How many bytes an image has.
 pub fn image_size(last: Page) -> usize
-    ensures { result ≡ imageSize (pageCount last) }
+    ensures { result ≡ image_size (page_count last) }
 {
     data_size(last) + status_size(last) as usize
 }
 
 // A slice is as long as an image.
 pub fn is_image(image: &[u8], last: Page) -> bool
-    ensures { result ≡ isImage (pageCount last) image.now }
+    ensures { result ≡ is_image (page_count last) image.now }
 {
     image.len() == image_size(last)
 }
 
 // A page is one of the chip's.
 pub fn is_page(last: Page, page: Page) -> bool
-    ensures { result ≡ isPage (pageCount last) page.0 }
+    ensures { result ≡ is_page (page_count last) page.0 }
 {
     page.0 <= last.0
 }
 
 // Where the byte of a status address stands in the image.
 pub fn status_index(last: Page, a: StatusAddress) -> usize
-    ensures { result ≡ statusIndex (pageCount last) a.0 }
+    ensures { result ≡ status_index (page_count last) a.0 }
 {
     data_size(last) + a.0 as usize
 }
 
 // An address is one of the size addresses from first on.
 fn within(first: u16, size: u16, a: u16) -> bool
-    ensures { result ≡ isWithin first size a }
+    ensures { result ≡ is_within first size a }
 {
     if a < first {
         return false;
@@ -90,14 +90,14 @@ fn within(first: u16, size: u16, a: u16) -> bool
 
 // An address lies in a field of bits.
 fn in_field(last: Page, field: Field, a: u16) -> bool
-    ensures { result ≡ isWithin (firstAddress field) (fieldSize (pageCount last)) a }
+    ensures { result ≡ is_within (first_address field) (field_size (page_count last)) a }
 {
     within(first_address(field), (last.0 as u16 + 1) / 8, a)
 }
 
 // A status address holds something; the others are gaps.
 pub fn is_held(last: Page, a: StatusAddress) -> bool
-    ensures { result ≡ is_held (pageCount last) a.0 }
+    ensures { result ≡ is_held (page_count last) a.0 }
 {
     let x = a.0;
     if within(REDIRECTION_BYTES, last.0 as u16 + 1, x) {

@@ -1,8 +1,8 @@
 // A page is handed on as its own 32 bytes of the image.
 ghost use Rattle.std.specs.Prelude.{◌≡◌, min, length};
-ghost use Rattle.chip_memory.specs.Image.{pageBytes};
-ghost use Rattle.chip_memory.specs.Page.{isBlank, copied};
-ghost use Rattle.base_crc.specs.Crc.{crc16Of};
+ghost use Rattle.chip_memory.specs.Image.{page_bytes};
+ghost use Rattle.chip_memory.specs.Page.{is_blank, copied};
+ghost use Rattle.base_crc.specs.Crc.{crc16_of};
 
 use base_types::address::Page;
 
@@ -15,7 +15,7 @@ fn lesser(a: usize, b: usize) -> usize
 
 // The part of the image from 32p to 32p + 32.
 pub fn part(image: &[u8], p: Page) -> &[u8]
-    ensures { result.now ≡ pageBytes image.now p.0 }
+    ensures { result.now ≡ page_bytes image.now p.0 }
 {
     let start = lesser(32 * (p.0 as usize), image.len());
     let end = lesser(start + 32, image.len());
@@ -24,7 +24,7 @@ pub fn part(image: &[u8], p: Page) -> &[u8]
 
 // The page's bytes are all FFh.
 pub fn is_blank(page: &[u8]) -> bool
-    ensures { result ≡ isBlank page.now }
+    ensures { result ≡ is_blank page.now }
 {
     for i in 0..page.len() {
         if page[i] != 0xFF {
@@ -36,7 +36,7 @@ pub fn is_blank(page: &[u8]) -> bool
 
 // The CRC-16 of a page's bytes.
 pub fn crc(page: &[u8]) -> u16
-    ensures { result ≡ crc16Of page.now }
+    ensures { result ≡ crc16_of page.now }
 {
     base_crc::crc16::of(page)
 }

@@ -1,7 +1,7 @@
 // What a write does to an image: bits only ever go from 1 to 0.
 ghost use Rattle.std.specs.Prelude.{◌≡◌, set};
-ghost use Rattle.chip_memory.specs.Layout.{pageCount};
-ghost use Rattle.chip_memory.specs.Write.{bit_of, statusWritable, isWritable, index_of, programmed};
+ghost use Rattle.chip_memory.specs.Layout.{page_count};
+ghost use Rattle.chip_memory.specs.Write.{bit_of, status_writable, is_writable, index_of, programmed};
 
 use crate::layout::Field;
 use crate::{image, layout};
@@ -9,7 +9,7 @@ use base_types::address::{Page, StatusAddress, Target};
 
 // The bit of one of the chip's pages in a field of bits; false where there is no such page.
 fn bit_of(image: &[u8], last: Page, field: Field, p: u16) -> bool
-    ensures { result ≡ bit_of (pageCount last) field image.now p }
+    ensures { result ≡ bit_of (page_count last) field image.now p }
 {
     if (last.0 as u16) < p {
         return false;
@@ -19,7 +19,7 @@ fn bit_of(image: &[u8], last: Page, field: Field, p: u16) -> bool
 
 // A status byte can be written: it is no gap and no protected redirection byte.
 pub fn status_writable(image: &[u8], last: Page, a: StatusAddress) -> bool
-    ensures { result ≡ statusWritable (pageCount last) image.now a.0 }
+    ensures { result ≡ status_writable (page_count last) image.now a.0 }
 {
     let x = a.0;
     if x < layout::REDIRECTION_BYTES {
@@ -35,7 +35,7 @@ pub fn status_writable(image: &[u8], last: Page, a: StatusAddress) -> bool
 
 // A byte can be written: it is no gap and is not protected.
 pub fn is_writable(image: &[u8], last: Page, t: Target) -> bool
-    ensures { result ≡ isWritable (pageCount last) image.now t }
+    ensures { result ≡ is_writable (page_count last) image.now t }
 {
     match t {
         Target::Data(a) => bit_of(image, last, Field::DataProtection, a.0 >> 5),
@@ -45,7 +45,7 @@ pub fn is_writable(image: &[u8], last: Page, t: Target) -> bool
 
 // Where a byte stands in the image.
 pub fn index_of(last: Page, t: Target) -> usize
-    ensures { result ≡ index_of (pageCount last) t }
+    ensures { result ≡ index_of (page_count last) t }
 {
     match t {
         Target::Data(a) => a.0 as usize,
@@ -64,7 +64,7 @@ fn put(image: &mut [u8], i: usize, v: u8)
 
 // A byte is ANDed into its target, unless that is protected or a gap.
 pub fn program(image: &mut [u8], last: Page, t: Target, byte: u8)
-    ensures { image.new ≡ programmed (pageCount last) image.old t byte }
+    ensures { image.new ≡ programmed (page_count last) image.old t byte }
 {
     if is_writable(image, last, t) {
         let i = index_of(last, t);

@@ -1,6 +1,6 @@
 // The ROM functions: Read, Match, Search and Skip over the 64-bit registration number. They are the same for each chip.
 ghost use Rattle.std.specs.Prelude.{◌≡◌};
-ghost use Rattle.chip_rom.specs.Rom.{numberBit, romCommand, romCommandBit, next_of, taken_of, numberSlot, romSlot, numberSent, romBit, romInRange};
+ghost use Rattle.chip_rom.specs.Rom.{number_bit, rom_command, rom_command_bit, next_of, taken_of, number_slot, rom_slot, number_sent, rom_bit, rom_in_range};
 
 use base_types::bits;
 
@@ -32,7 +32,7 @@ pub enum RomOutcome {
 
 // Bit i of the registration number.
 pub fn number_bit(number: [u8; 8], i: u8) -> bool
-    ensures { result ≡ numberBit number i }
+    ensures { result ≡ number_bit number i }
 {
     let at = (i >> 3) as usize;
     if at < 8 {
@@ -44,7 +44,7 @@ pub fn number_bit(number: [u8; 8], i: u8) -> bool
 
 // A whole ROM command byte is in.
 fn command(byte: u8) -> RomOutcome
-    ensures { result ≡ romCommand byte }
+    ensures { result ≡ rom_command byte }
 {
     match byte {
         0x33 => RomOutcome::Stays(RomStage::Number(RomStep::Read, 0)),
@@ -57,7 +57,7 @@ fn command(byte: u8) -> RomOutcome
 
 // One bit more of the command byte, of which k were in; the register now holds v.
 fn command_bit(k: u8, v: u8) -> RomOutcome
-    ensures { result ≡ romCommandBit k v }
+    ensures { result ≡ rom_command_bit k v }
 {
     if k < 7 {
         RomOutcome::Stays(RomStage::Command(k + 1, v))
@@ -90,7 +90,7 @@ fn taken(agrees: bool, step: RomStep, i: u8) -> RomOutcome
 
 // One slot at bit i of the number.
 fn number_slot(step: RomStep, i: u8, bit: bool, number: [u8; 8]) -> RomOutcome
-    ensures { result ≡ numberSlot step i bit number }
+    ensures { result ≡ number_slot step i bit number }
 {
     match step {
         RomStep::Read => next(RomStep::Read, i),
@@ -109,7 +109,7 @@ fn number_slot(step: RomStep, i: u8, bit: bool, number: [u8; 8]) -> RomOutcome
 
 // One slot.
 pub fn slot(stage: RomStage, bit: bool, number: [u8; 8]) -> RomOutcome
-    ensures { result ≡ romSlot stage bit number }
+    ensures { result ≡ rom_slot stage bit number }
 {
     match stage {
         RomStage::Command(k, register) => command_bit(k, bits::shift_in(register, bit)),
@@ -119,7 +119,7 @@ pub fn slot(stage: RomStage, bit: bool, number: [u8; 8]) -> RomOutcome
 
 // The bit that the chip sends at a step, where the number's is b; 1 where it is not sending.
 fn number_sent(step: RomStep, b: bool) -> bool
-    ensures { result ≡ numberSent step b }
+    ensures { result ≡ number_sent step b }
 {
     match step {
         RomStep::Read => b,
@@ -132,7 +132,7 @@ fn number_sent(step: RomStep, b: bool) -> bool
 
 // The chip's bit in a slot.
 pub fn chip_bit(stage: RomStage, number: [u8; 8]) -> bool
-    ensures { result ≡ romBit stage number }
+    ensures { result ≡ rom_bit stage number }
 {
     match stage {
         RomStage::Command(_, _) => true,
@@ -142,7 +142,7 @@ pub fn chip_bit(stage: RomStage, number: [u8; 8]) -> bool
 
 // The fields of a stage are within their ranges.
 pub fn in_range(stage: RomStage) -> bool
-    ensures { result ≡ romInRange stage }
+    ensures { result ≡ rom_in_range stage }
 {
     match stage {
         RomStage::Command(k, _) => k < 8,

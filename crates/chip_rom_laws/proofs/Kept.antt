@@ -6,23 +6,23 @@ use mathlib.Core.List.{List}
 use native.Mathlib.Omega.{arith}
 use lib.Dec.{eqb, ltb}
 use borrow.Author.Tests.{lt-ltb, ltb-true}
-use Rattle.base_types.specs.Bits.{same, shiftIn}
+use Rattle.base_types.specs.Bits.{same, shift_in}
 use Rattle.chip_rom.specs.declared.RomStep.{RomStep}
 use Rattle.chip_rom.specs.declared.RomStep.TheVariants.{Read, Match, SearchBit, SearchComplement, SearchTake}
 use Rattle.chip_rom.specs.declared.RomStage.{RomStage}
 use Rattle.chip_rom.specs.declared.RomStage.TheVariants.{Command, Number}
 use Rattle.chip_rom.specs.declared.RomOutcome.{RomOutcome}
 use Rattle.chip_rom.specs.declared.RomOutcome.TheVariants.{Stays, Selected, Deselected}
-use Rattle.chip_rom.specs.Rom.{numberBit, romCommand, romCommandBit, next_of, taken_of, numberSlot, romSlot, romInRange}
+use Rattle.chip_rom.specs.Rom.{number_bit, rom_command, rom_command_bit, next_of, taken_of, number_slot, rom_slot, rom_in_range}
 
 -- the stage of an outcome, if it has one, is within its ranges
-abbrev outcomeInRange : RomOutcome → Bool
-outcomeInRange (Stays s) = romInRange s
-outcomeInRange Selected = true
-outcomeInRange Deselected = true
+abbrev outcome_in_range : RomOutcome → Bool
+outcome_in_range (Stays s) = rom_in_range s
+outcome_in_range Selected = true
+outcome_in_range Deselected = true
 
 -- a choice of two outcomes: the first has to be within the ranges only where the test says so
-choice-kept : (t : Bool) (o p : RomOutcome) → (t ≡ true → outcomeInRange o ≡ true) → outcomeInRange p ≡ true → outcomeInRange (cond t o p) ≡ true
+choice-kept : (t : Bool) (o p : RomOutcome) → (t ≡ true → outcome_in_range o ≡ true) → outcome_in_range p ≡ true → outcome_in_range (cond t o p) ≡ true
 choice-kept true o p x y = x refl
 choice-kept false o p x y = y
 
@@ -30,28 +30,28 @@ choice-kept false o p x y = y
 stays-below : (i n : ℕ) → ltb i n ≡ true → ltb (i + 1) (suc n) ≡ true
 stays-below i n t = lt-ltb (i + 1) (suc n) (omega (arith, ltb-true i n t))
 
-command-kept : (byte : ℕ) → outcomeInRange (romCommand byte) ≡ true
-unfolding romCommand romInRange
+command-kept : (byte : ℕ) → outcome_in_range (rom_command byte) ≡ true
+unfolding rom_command rom_in_range
 command-kept byte =
     choice-kept (eqb byte 0x33) _ _ (λ t. refl)
     (choice-kept (eqb byte 0x55) _ _ (λ t. refl) (choice-kept (eqb byte 0xF0) _ _ (λ t. refl) (choice-kept (eqb byte 0xCC) _ _ (λ t. refl) refl)))
 
-next-kept : (step : RomStep) (i : ℕ) → outcomeInRange (next_of step i) ≡ true
-unfolding next_of romInRange
+next-kept : (step : RomStep) (i : ℕ) → outcome_in_range (next_of step i) ≡ true
+unfolding next_of rom_in_range
 next-kept step i = choice-kept (ltb i 63) _ _ (stays-below i 63) refl
 
-taken-kept : (agrees : Bool) (step : RomStep) (i : ℕ) → outcomeInRange (taken_of agrees step i) ≡ true
+taken-kept : (agrees : Bool) (step : RomStep) (i : ℕ) → outcome_in_range (taken_of agrees step i) ≡ true
 unfolding taken_of
 taken-kept agrees step i = choice-kept agrees _ _ (λ t. next-kept step i) refl
 
-slot_kept : (r : RomStage) (m : Bool) (number : List ℕ) → romInRange r ≡ true → outcomeInRange (romSlot r m number) ≡ true
-unfolding romSlot romCommandBit numberSlot romInRange
-slot_kept (Command k v) m number h = choice-kept (ltb k 7) _ _ (stays-below k 7) (command-kept (shiftIn v m))
+slot_kept : (r : RomStage) (m : Bool) (number : List ℕ) → rom_in_range r ≡ true → outcome_in_range (rom_slot r m number) ≡ true
+unfolding rom_slot rom_command_bit number_slot rom_in_range
+slot_kept (Command k v) m number h = choice-kept (ltb k 7) _ _ (stays-below k 7) (command-kept (shift_in v m))
 slot_kept (Number Read i) m number h = next-kept Read i
-slot_kept (Number Match i) m number h = taken-kept (same m (numberBit number i)) Match i
+slot_kept (Number Match i) m number h = taken-kept (same m (number_bit number i)) Match i
 slot_kept (Number SearchBit i) m number h = h
 slot_kept (Number SearchComplement i) m number h = h
-slot_kept (Number SearchTake i) m number h = taken-kept (same m (numberBit number i)) SearchBit i
+slot_kept (Number SearchTake i) m number h = taken-kept (same m (number_bit number i)) SearchBit i
 
-pub kept : (r s : RomStage) (m : Bool) (number : List ℕ) → romInRange r ≡ true → romSlot r m number ≡ Stays s → romInRange s ≡ true
-kept r s m number h e = sym (ap outcomeInRange e) ∙ slot_kept r m number h
+pub kept : (r s : RomStage) (m : Bool) (number : List ℕ) → rom_in_range r ≡ true → rom_slot r m number ≡ Stays s → rom_in_range s ≡ true
+kept r s m number h e = sym (ap outcome_in_range e) ∙ slot_kept r m number h

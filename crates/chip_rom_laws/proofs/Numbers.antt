@@ -10,39 +10,39 @@ use Rattle.bus_events.specs.Slots.{ones}
 use Rattle.chip_rom.specs.declared.RomStep.TheVariants.{Read, Match}
 use Rattle.chip_rom.specs.declared.RomStage.TheVariants.{Number}
 use Rattle.chip_rom.specs.declared.RomOutcome.TheVariants.{Selected, Deselected}
-use Rattle.chip_rom.specs.Rom.{numberBit, numberSlot, romSlot, romBit}
-use Rattle.chip_rom_laws.specs.Rom.{Roms, last, more, numberBits}
+use Rattle.chip_rom.specs.Rom.{number_bit, number_slot, rom_slot, rom_bit}
+use Rattle.chip_rom_laws.specs.Rom.{Roms, last, more, number_bits}
 use Rattle.chip_rom_laws.proofs.Turns.{next-on, next-end, agrees_on, agrees-end, disagrees}
 
 module _ (number : List ℕ) where
   -- from bit i on
   read-from : (i : ℕ) (m : Bool) (ms : List Bool) → i + length ms ≡ 63
-      → Roms number (Number Read i) (m ∷ ms) (numberBits number i (suc (length ms))) Selected
-  unfolding numberBits romBit romSlot numberSlot
+      → Roms number (Number Read i) (m ∷ ms) (number_bits number i (suc (length ms))) Selected
+  unfolding number_bits rom_bit rom_slot number_slot
   read-from i m [] e = last refl (next-end Read i (omega arith))
   read-from i m (d ∷ ms) e = more refl (next-on Read i (omega arith)) (read-from (i + 1) d ms (omega arith))
 
-  pub read : (ms : List Bool) → length ms ≡ 64 → Roms number (Number Read 0) ms (numberBits number 0 64) Selected
+  pub read : (ms : List Bool) → length ms ≡ 64 → Roms number (Number Read 0) ms (number_bits number 0 64) Selected
   read [] e = let z : ⊥ = omega arith in absurd z
-  read (m ∷ ms) e = subst (λ k. Roms number (Number Read 0) (m ∷ ms) (numberBits number 0 k) Selected) e (read-from 0 m ms (omega arith))
+  read (m ∷ ms) e = subst (λ k. Roms number (Number Read 0) (m ∷ ms) (number_bits number 0 k) Selected) e (read-from 0 m ms (omega arith))
 
-  matched-from : (i k : ℕ) → i + k ≡ 63 → Roms number (Number Match i) (numberBits number i (suc k)) (ones (suc k)) Selected
-  unfolding numberBits romBit romSlot numberSlot
-  matched-from i zero e = last refl (agrees-end (numberBit number i) Match i (omega arith))
-  matched-from i (suc k) e = more refl (agrees_on (numberBit number i) Match i (omega arith)) (matched-from (i + 1) k (omega arith))
+  matched-from : (i k : ℕ) → i + k ≡ 63 → Roms number (Number Match i) (number_bits number i (suc k)) (ones (suc k)) Selected
+  unfolding number_bits rom_bit rom_slot number_slot
+  matched-from i zero e = last refl (agrees-end (number_bit number i) Match i (omega arith))
+  matched-from i (suc k) e = more refl (agrees_on (number_bit number i) Match i (omega arith)) (matched-from (i + 1) k (omega arith))
 
-  pub matched : Roms number (Number Match 0) (numberBits number 0 64) (ones 64) Selected
+  pub matched : Roms number (Number Match 0) (number_bits number 0 64) (ones 64) Selected
   matched = matched-from 0 63 refl
 
   -- k bits agree, and bit j does not
   mismatched-from : (i k j : ℕ) → i + k ≡ j → j < 64
-      → Roms number (Number Match i) (numberBits number i k ++ (not (numberBit number j) ∷ [])) (ones (suc k)) Deselected
-  unfolding numberBits romBit romSlot numberSlot
+      → Roms number (Number Match i) (number_bits number i k ++ (not (number_bit number j) ∷ [])) (ones (suc k)) Deselected
+  unfolding number_bits rom_bit rom_slot number_slot
   mismatched-from i zero j e h =
       let s : j ≡ i = omega arith in
-      rw s (last refl (disagrees (numberBit number i) Match i))
+      rw s (last refl (disagrees (number_bit number i) Match i))
   mismatched-from i (suc k) j e h =
-      more refl (agrees_on (numberBit number i) Match i (omega arith)) (mismatched-from (i + 1) k j (omega arith) h)
+      more refl (agrees_on (number_bit number i) Match i (omega arith)) (mismatched-from (i + 1) k j (omega arith) h)
 
-  pub mismatched : (k : ℕ) → k < 64 → Roms number (Number Match 0) (numberBits number 0 k ++ (not (numberBit number k) ∷ [])) (ones (k + 1)) Deselected
+  pub mismatched : (k : ℕ) → k < 64 → Roms number (Number Match 0) (number_bits number 0 k ++ (not (number_bit number k) ∷ [])) (ones (k + 1)) Deselected
   mismatched k h = rw add-one (mismatched-from 0 k k (omega arith) h)

@@ -7,7 +7,7 @@ use native.Mathlib.Omega.{arith}
 use native.Mathlib.Nat.{mod-lt}
 use lib.Dec.{ltb, lit<, lit≤}
 use borrow.Author.Tests.{lt-ltb, le-ltb}
-use Rattle.chip_stage.specs.Limits.{limitOf, isAddress, addressBits, keptAddress}
+use Rattle.chip_stage.specs.Limits.{limit_of, is_address, address_bits, kept_address}
 use Rattle.chip_function_laws.specs.Addresses.{AddressLaws}
 use Rattle.chip_function_laws.proofs.Addresses.{address-laws}
 use Rattle.chip_session_laws.specs.Laws.{StateLaws, RomSessionLaws, ReadSessionLaws, WriteLaws, SilenceLaws, NoticeLaws, Ds2505Starts}
@@ -55,7 +55,7 @@ data-has : (a : ℕ) → ltb (a % 0x800) 0x800 ≡ true
 data-has a = lt-ltb (a % 0x800) 0x800 (mod-lt a (lit< tt))
 
 pub ds2505-starts : Ds2505Starts
-unfolding isAddress limitOf keptAddress addressBits
+unfolding is_address limit_of kept_address address_bits
 ds2505-starts =
     record {
       kept = λ a. refl;

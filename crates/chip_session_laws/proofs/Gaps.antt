@@ -10,16 +10,16 @@ use lib.Dec.{ltb}
 use lib.ListN.{length, get_or, set, length-set, get_or-eq_default}
 use lib.Seq.{get_or-set_same, get_or-set_other}
 use borrow.Author.Tests.{le-ltb}
-use Rattle.base_types.specs.Outcome.{Outcome, refused, accepted, unlessRefused}
+use Rattle.base_types.specs.Outcome.{Outcome, refused, accepted, unless_refused}
 use Rattle.base_types.specs.declared.address.Target.{Target}
 use Rattle.base_types.specs.declared.address.Target.TheVariants.{Data, Status}
 use Rattle.bus_events.specs.declared.Event.{Event}
 use Rattle.bus_events.specs.declared.Event.TheVariants.{Reset, Slot, Pulse, PowerLoss}
 use Rattle.chip_memory.specs.declared.layout.Field.{Field}
 use Rattle.chip_memory.specs.declared.layout.Field.TheVariants.{DataProtection, RedirectionProtection, UsedPages}
-use Rattle.chip_memory.specs.Layout.{firstAddress, isImage, is_held, redirectionBytes}
-use Rattle.chip_memory.specs.Image.{dataByte, statusByte, targetByte, redirectionOf, pageBit}
-use Rattle.chip_memory.specs.Write.{bit_of, statusWritable, isWritable, index_of, programmed}
+use Rattle.chip_memory.specs.Layout.{first_address, is_image, is_held, redirection_bytes}
+use Rattle.chip_memory.specs.Image.{data_byte, status_byte, target_byte, redirection_of, page_bit}
+use Rattle.chip_memory.specs.Write.{bit_of, status_writable, is_writable, index_of, programmed}
 use Rattle.chip_memory.proofs.Gaps.{gap-kept}
 use Rattle.chip_stage.specs.declared.stage.Command.{Command}
 use Rattle.chip_stage.specs.declared.stage.Command.TheVariants.{ReadMemory, ReadStatus, ExtendedRead, Write}
@@ -29,13 +29,13 @@ use Rattle.chip_stage.specs.declared.stage.Outgoing.{Outgoing}
 use Rattle.chip_stage.specs.declared.stage.Outgoing.TheVariants.{MemoryData, MemoryCrc, StatusData, StatusCrc, RedirectionByte, RedirectionCrc, PageData, PageCrc, WriteCrc, ReadBack}
 use Rattle.chip_stage.specs.declared.stage.MemoryStage.{MemoryStage}
 use Rattle.chip_stage.specs.declared.stage.MemoryStage.TheVariants.{Silent, Receive, Send, Armed}
-use Rattle.chip_stage.specs.Reads.{memoryFrom, statusFrom, redirectionFrom, pageFrom, startMemory, startStatus, startExtended, afterMemory, afterStatus, nextStatus, afterPage, nextPage}
-use Rattle.chip_stage.specs.Writes.{readingBack}
-use Rattle.chip_function.specs.Functions.{addressed, startedAt, received, receiveBit, sent, sendBit, memory_slot, pulseImage, pulseStage}
+use Rattle.chip_stage.specs.Reads.{memory_from, status_from, redirection_from, page_from, start_memory, start_status, start_extended, after_memory, after_status, next_status, after_page, next_page}
+use Rattle.chip_stage.specs.Writes.{reading_back}
+use Rattle.chip_function.specs.Functions.{addressed, started_at, received, receive_bit, sent, send_bit, memory_slot, pulse_image, pulse_stage}
 use Rattle.chip_entries.specs.declared.event.Stage.{Stage}
 use Rattle.chip_entries.specs.declared.event.Stage.TheVariants.{Rom, Memory}
 use Rattle.chip_entries.specs.declared.event.State.{State}
-use Rattle.chip_entries.specs.Event.{stageSlot, pulseImageOf, stagePulse, imageAfter, stageAfter, eventAnswer, eventState, eventImage}
+use Rattle.chip_entries.specs.Event.{stage_slot, pulse_image_of, stage_pulse, image_after, stage_after, event_answer, event_state, event_image}
 use Rattle.chip_entries.specs.Run.{Chip, next, draws, run, answers}
 use Rattle.chip_entries.proofs.Kept.{image-length}
 use Rattle.chip_session_laws.specs.Table.{Gap, Alike, ◌over◌, GapLaws}
@@ -44,27 +44,27 @@ use Rattle.chip_session_laws.proofs.Table.{data-held, redirection-held, used-hel
 module _ (n : ℕ) where
   -- ---- no event alters a gap
 
-  pulse-keeps : (s : Stage) (img : List ℕ) (a : ℕ) → Gap n a → get_or (pulseImageOf n s img) (32 * n + a) 0 ≡ get_or img (32 * n + a) 0
-  unfolding pulseImageOf pulseImage
+  pulse-keeps : (s : Stage) (img : List ℕ) (a : ℕ) → Gap n a → get_or (pulse_image_of n s img) (32 * n + a) 0 ≡ get_or img (32 * n + a) 0
+  unfolding pulse_image_of pulse_image
   pulse-keeps (Rom r) img a g = refl
   pulse-keeps (Memory Silent) img a g = refl
   pulse-keeps (Memory (Receive i k register crc)) img a g = refl
   pulse-keeps (Memory (Send o left v crc)) img a g = refl
   pulse-keeps (Memory (Armed mode t byte)) img a g = gap-kept n img t byte a (gap-unheld n g)
 
-  event-keeps : (s : Stage) (e : Event) (img : List ℕ) (a : ℕ) → Gap n a → get_or (imageAfter n s e img) (32 * n + a) 0 ≡ get_or img (32 * n + a) 0
-  unfolding imageAfter
+  event-keeps : (s : Stage) (e : Event) (img : List ℕ) (a : ℕ) → Gap n a → get_or (image_after n s e img) (32 * n + a) 0 ≡ get_or img (32 * n + a) 0
+  unfolding image_after
   event-keeps s Reset img a g = refl
   event-keeps s (Slot bit) img a g = refl
   event-keeps s Pulse img a g = pulse-keeps s img a g
   event-keeps s PowerLoss img a g = refl
 
-  either : (t : Outcome Bool) (new old : List ℕ) (i : ℕ) → get_or new i 0 ≡ get_or old i 0 → get_or (unlessRefused t new old) i 0 ≡ get_or old i 0
+  either : (t : Outcome Bool) (new old : List ℕ) (i : ℕ) → get_or new i 0 ≡ get_or old i 0 → get_or (unless_refused t new old) i 0 ≡ get_or old i 0
   either (accepted r) new old i e = e
   either (refused k vs) new old i e = refl
 
   kept : (c : Chip) (es : List Event) (a : ℕ) → Gap n a → get_or (run n c es).image (32 * n + a) 0 ≡ get_or c.image (32 * n + a) 0
-  unfolding run eventImage
+  unfolding run event_image
   kept c [] a g = refl
   kept c (e ∷ es) a g = kept (next n c e) es a g ∙ either (draws n c e) _ c.image (32 * n + a) (event-keeps c.state.stage e c.image a g)
 
@@ -80,49 +80,49 @@ module _ (n : ℕ) where
         no_gap : (b : ℕ) → Gap n b → a ≡ b → ⊥
         no_gap b g e = let z : ◌≡◌ {A = Bool} true false = sym h ∙ ap (is_held n) e ∙ gap-unheld n g in let w : ◌≡◌ {A = ℕ} 0 1 = cc in omega arith
 
-    same-data : (a : ℕ) → dataByte n x a ≡ dataByte n y a
-    unfolding dataByte
+    same-data : (a : ℕ) → data_byte n x a ≡ data_byte n y a
+    unfolding data_byte
     same-data a = go (dec_lt a (32 * n))
       where
         go : Dec (a < 32 * n) → cond (ltb a (32 * n)) (get_or x a 0) 0xFF ≡ cond (ltb a (32 * n)) (get_or y a 0) 0xFF
         go (yes lt) = ap (λ (b : ℕ). cond (ltb a (32 * n)) b 0xFF) (data-at a lt)
         go (no ge) = simp (le-ltb a (32 * n) (omega arith))
 
-    same-status : (a : ℕ) → statusByte n x a ≡ statusByte n y a
-    unfolding statusByte
+    same-status : (a : ℕ) → status_byte n x a ≡ status_byte n y a
+    unfolding status_byte
     same-status a = go (is_held n a) refl
       where
         go : (b : Bool) → is_held n a ≡ b → cond b (get_or x (32 * n + a) 0) 0xFF ≡ cond b (get_or y (32 * n + a) 0) 0xFF
         go true h = held_at a h
         go false h = refl
 
-    same_target : (t : Target) → targetByte n x t ≡ targetByte n y t
-    unfolding targetByte
+    same_target : (t : Target) → target_byte n x t ≡ target_byte n y t
+    unfolding target_byte
     same_target (Data a) = same-data a.0
     same_target (Status a) = same-status a.0
 
-    same-redirection : (p : ℕ) → redirectionOf n x p ≡ redirectionOf n y p
-    unfolding redirectionOf
+    same-redirection : (p : ℕ) → redirection_of n x p ≡ redirection_of n y p
+    unfolding redirection_of
     same-redirection p = same (32 * n + (0x100 + p)) (λ b g e. let lt = gap-low n g in omega arith)
 
     -- ---- the stage after a slot
 
     same-addressed : (c : Command) (a crc : ℕ) → addressed n c a crc x ≡ addressed n c a crc y
-    unfolding addressed startMemory startStatus startExtended memoryFrom statusFrom redirectionFrom
+    unfolding addressed start_memory start_status start_extended memory_from status_from redirection_from
     same-addressed ReadMemory a crc = rw (same-data a)
     same-addressed ReadStatus a crc = rw (same-status a)
     same-addressed ExtendedRead a crc = rw (same-redirection (a / 32 % 256))
     same-addressed (Write mode space) a crc = refl
 
     same_received : (i : Incoming) (byte crc : ℕ) → received n i byte crc x ≡ received n i byte crc y
-    unfolding received startedAt
+    unfolding received started_at
     same_received CommandByte byte crc = refl
     same_received (AddressLow c) byte crc = refl
     same_received (AddressHigh c low) byte crc = same-addressed c _ _
     same_received (DataByte mode t) byte crc = refl
 
     same_sent : (o : Outgoing) (crc : ℕ) → sent n o crc x ≡ sent n o crc y
-    unfolding sent afterMemory afterStatus nextStatus afterPage nextPage memoryFrom statusFrom redirectionFrom pageFrom
+    unfolding sent after_memory after_status next_status after_page next_page memory_from status_from redirection_from page_from
     same_sent (MemoryData a) crc = rw (same-data (a.0 + 1))
     same_sent MemoryCrc crc = refl
     same_sent (StatusData a) crc = rw (same-status (a.0 + 1))
@@ -135,21 +135,21 @@ module _ (n : ℕ) where
     same_sent (ReadBack mode t) crc = refl
 
     same-slot : (m : MemoryStage) (bit : Bool) → memory_slot n m bit x ≡ memory_slot n m bit y
-    unfolding memory_slot receiveBit sendBit
+    unfolding memory_slot receive_bit send_bit
     same-slot Silent bit = refl
     same-slot (Receive i k register crc) bit = rw (same_received i _ crc)
     same-slot (Send o left v crc) bit = rw (same_sent o crc)
     same-slot (Armed mode t byte) bit = refl
 
-    same-pulse : (m : MemoryStage) → pulseStage n m x ≡ pulseStage n m y
-    unfolding pulseStage readingBack
+    same-pulse : (m : MemoryStage) → pulse_stage n m x ≡ pulse_stage n m y
+    unfolding pulse_stage reading_back
     same-pulse Silent = refl
     same-pulse (Receive i k register crc) = refl
     same-pulse (Send o left v crc) = refl
     same-pulse (Armed mode t byte) = rw (same_target t)
 
-    same-stage : (s : Stage) (e : Event) (number : List ℕ) → stageAfter n s e number x ≡ stageAfter n s e number y
-    unfolding stageAfter stageSlot stagePulse
+    same-stage : (s : Stage) (e : Event) (number : List ℕ) → stage_after n s e number x ≡ stage_after n s e number y
+    unfolding stage_after stage_slot stage_pulse
     same-stage s Reset number = refl
     same-stage (Rom r) (Slot bit) number = refl
     same-stage (Memory m) (Slot bit) number = ap Memory (same-slot m bit)
@@ -159,24 +159,24 @@ module _ (n : ℕ) where
 
     -- ---- the image after a pulse
 
-    field-held : n % 8 ≡ 0 → (f : Field) (p : ℕ) → p < n → is_held n (firstAddress f + p / 8) ≡ true
-    unfolding firstAddress
+    field-held : n % 8 ≡ 0 → (f : Field) (p : ℕ) → p < n → is_held n (first_address f + p / 8) ≡ true
+    unfolding first_address
     field-held whole DataProtection p lt = ap (is_held n) (omega arith) ∙ data-held n (p / 8) (omega arith)
     field-held whole RedirectionProtection p lt = redirection-held n (p / 8) (omega arith)
     field-held whole UsedPages p lt = used-held n (p / 8) (omega arith)
 
     same_bit : n % 8 ≡ 0 → (f : Field) (p : ℕ) → bit_of n f x p ≡ bit_of n f y p
-    unfolding bit_of pageBit
+    unfolding bit_of page_bit
     same_bit whole f p = go (dec_lt p n)
       where
-        go : Dec (p < n) → (ltb p n && pageBit n f x p) ≡ (ltb p n && pageBit n f y p)
-        go (yes lt) = rw (held_at (firstAddress f + p / 8) (field-held whole f p lt))
+        go : Dec (p < n) → (ltb p n && page_bit n f x p) ≡ (ltb p n && page_bit n f y p)
+        go (yes lt) = rw (held_at (first_address f + p / 8) (field-held whole f p lt))
         go (no ge) = simp (le-ltb p n (omega arith))
 
-    same-writable : n % 8 ≡ 0 → (t : Target) → isWritable n x t ≡ isWritable n y t
-    unfolding isWritable statusWritable
+    same-writable : n % 8 ≡ 0 → (t : Target) → is_writable n x t ≡ is_writable n y t
+    unfolding is_writable status_writable
     same-writable whole (Data a) = same_bit whole DataProtection (a.0 / 32)
-    same-writable whole (Status a) = rw (same_bit whole RedirectionProtection (a.0 - redirectionBytes))
+    same-writable whole (Status a) = rw (same_bit whole RedirectionProtection (a.0 - redirection_bytes))
 
     both-anded : length x ≡ length y → (i byte : ℕ) → Alike n (set x i (bit_and (get_or x i 0) byte)) (set y i (bit_and (get_or y i 0) byte))
     both-anded l i byte j free = go (ℕ_discrete j i) (dec_lt i (length x))
@@ -199,22 +199,22 @@ module _ (n : ℕ) where
 
     both-programmed : n % 8 ≡ 0 → length x ≡ length y → (t : Target) (byte : ℕ) → Alike n (programmed n x t byte) (programmed n y t byte)
     unfolding programmed
-    both-programmed whole l t byte = rw (same-writable whole t) (go (isWritable n y t))
+    both-programmed whole l t byte = rw (same-writable whole t) (go (is_writable n y t))
       where
         go : (b : Bool) → Alike n (cond b (set x (index_of n t) (bit_and (get_or x (index_of n t) 0) byte)) x) (cond b (set y (index_of n t) (bit_and (get_or y (index_of n t) 0) byte)) y)
         go true = both-anded l (index_of n t) byte
         go false = same
 
-    both-pulsed : n % 8 ≡ 0 → length x ≡ length y → (s : Stage) → Alike n (pulseImageOf n s x) (pulseImageOf n s y)
-    unfolding pulseImageOf pulseImage
+    both-pulsed : n % 8 ≡ 0 → length x ≡ length y → (s : Stage) → Alike n (pulse_image_of n s x) (pulse_image_of n s y)
+    unfolding pulse_image_of pulse_image
     both-pulsed whole l (Rom r) = same
     both-pulsed whole l (Memory Silent) = same
     both-pulsed whole l (Memory (Receive i k register crc)) = same
     both-pulsed whole l (Memory (Send o left v crc)) = same
     both-pulsed whole l (Memory (Armed mode t byte)) = both-programmed whole l t byte
 
-    both-after : n % 8 ≡ 0 → length x ≡ length y → (s : Stage) (e : Event) → Alike n (imageAfter n s e x) (imageAfter n s e y)
-    unfolding imageAfter
+    both-after : n % 8 ≡ 0 → length x ≡ length y → (s : Stage) (e : Event) → Alike n (image_after n s e x) (image_after n s e y)
+    unfolding image_after
     both-after whole l s Reset = same
     both-after whole l s (Slot bit) = same
     both-after whole l s Pulse = both-pulsed whole l s
@@ -225,28 +225,28 @@ module _ (n : ℕ) where
   module _ (whole : n % 8 ≡ 0) where
     module _ (s : State) (x y : List ℕ) (l : length x ≡ length y) (same : Alike n x y) (e : Event) where
       one_told : draws n (s over x) e ≡ draws n (s over y) e
-      unfolding eventAnswer isImage
+      unfolding event_answer is_image
       one_told = rw l
 
       one_state : (next n (s over x) e).state ≡ (next n (s over y) e).state
-      unfolding eventState
+      unfolding event_state
       one_state =
-          ap₂ (λ (t : Outcome Bool) (g : Stage). unlessRefused t (record { stage = g; number = s.number }) s) one_told
-          (same-stage (imageAfter n s.stage e x) (imageAfter n s.stage e y) (both-after x y same whole l s.stage e) s.stage e s.number)
+          ap₂ (λ (t : Outcome Bool) (g : Stage). unless_refused t (record { stage = g; number = s.number }) s) one_told
+          (same-stage (image_after n s.stage e x) (image_after n s.stage e y) (both-after x y same whole l s.stage e) s.stage e s.number)
 
-      either-alike : (t : Outcome Bool) (u v : List ℕ) → Alike n u v → Alike n (unlessRefused t u x) (unlessRefused t v y)
+      either-alike : (t : Outcome Bool) (u v : List ℕ) → Alike n u v → Alike n (unless_refused t u x) (unless_refused t v y)
       either-alike (accepted r) u v h = h
       either-alike (refused k vs) u v h = same
 
       one-image : Alike n (next n (s over x) e).image (next n (s over y) e).image
-      unfolding eventImage
+      unfolding event_image
       one-image = rw one_told (either-alike (draws n (s over y) e) _ _ (both-after x y same whole l s.stage e))
 
     next-length : (c : Chip) (e : Event) → length (next n c e).image ≡ length c.image
-    unfolding eventImage
+    unfolding event_image
     next-length c e = go (draws n c e)
       where
-        go : (t : Outcome Bool) → length (unlessRefused t (imageAfter n c.state.stage e c.image) c.image) ≡ length c.image
+        go : (t : Outcome Bool) → length (unless_refused t (image_after n c.state.stage e c.image) c.image) ≡ length c.image
         go (accepted r) = image-length n c.state.stage e c.image
         go (refused k vs) = refl
 

@@ -10,26 +10,26 @@ use lib.Seq.{take_at, drop_at}
 use borrow.Author.Tests.{lt-ltb}
 use Rattle.base_types.proofs.Words.{bits-length, bytes-length}
 use Rattle.base_types.specs.Outcome.{accepted}
-use Rattle.base_types.specs.Bits.{bits_of, bitsOfBytes}
+use Rattle.base_types.specs.Bits.{bits_of, bits_of_bytes}
 use Rattle.base_types.specs.declared.address.Space.{Space}
 use Rattle.base_types.specs.declared.address.Space.TheVariants.{Data, Status}
 use Rattle.base_types.specs.declared.write_mode.WriteMode.TheVariants.{Ordinary}
-use Rattle.base_types.specs.WriteMode.{writeCommand}
-use Rattle.base_types.specs.Scan.{valuesFrom}
+use Rattle.base_types.specs.WriteMode.{write_command}
+use Rattle.base_types.specs.Scan.{values_from}
 use Rattle.bus_events.specs.Slots.{slots, ones, reading, lines}
 use Rattle.bus_events.specs.Events.{reset}
-use Rattle.base_crc.specs.Polynomial.{crc16Polynomial}
-use Rattle.base_crc.specs.Crc.{crcBytes, crcBits, crc16Of, crc16Word}
+use Rattle.base_crc.specs.Polynomial.{crc16_polynomial}
+use Rattle.base_crc.specs.Crc.{crc_bytes, crc_bits, crc16_of, crc16_word}
 use Rattle.base_crc.proofs.Runs.{bytes_after, bytes_bits}
-use Rattle.chip_memory.specs.Layout.{dataSize}
-use Rattle.chip_memory.specs.Image.{dataByte, statusByte, redirectionOf}
-use Rattle.chip_stage.specs.Limits.{limitOf, isAddress, addressBits, keptAddress}
+use Rattle.chip_memory.specs.Layout.{data_size}
+use Rattle.chip_memory.specs.Image.{data_byte, status_byte, redirection_of}
+use Rattle.chip_stage.specs.Limits.{limit_of, is_address, address_bits, kept_address}
 use Rattle.chip_stage.proofs.Addresses.{limit-fits}
-use Rattle.chip_function_laws.specs.Streams.{crcOf, header, memoryStream, statusStream, extendedPages, extendedStream}
+use Rattle.chip_function_laws.specs.Streams.{crc_of, header, memory_stream, status_stream, extended_pages, extended_stream}
 use Rattle.chip_function_laws.proofs.Addresses.{address-laws}
 use Rattle.chip_entries.specs.Run.{Chip, answers, line_of}
-use Rattle.chip_session_laws.specs.Session.{Ready, Selection, thenOnes}
-use Rattle.chip_session_laws.specs.Laws.{Draws, startingAt, HeardWithCrc, WriteFits, NoticeLaws}
+use Rattle.chip_session_laws.specs.Session.{Ready, Selection, then_ones}
+use Rattle.chip_session_laws.specs.Laws.{Draws, starting_at, HeardWithCrc, WriteFits, NoticeLaws}
 use Rattle.chip_session_laws.proofs.Slots.{lines-read}
 use Rattle.chip_session_laws.proofs.Sessions.{read-sessions}
 use Rattle.chip_session_laws.proofs.Writes.{byte-arms}
@@ -45,153 +45,153 @@ told-once : (xs ys : List Bool) → map accepted xs ≡ map accepted ys → xs �
 told-once xs ys e = sym (line-back xs) ∙ ap (map line_of) e ∙ line-back ys
 
 -- the first bits of a longer stream
-first-bits : (bits rest : List Bool) (k : ℕ) → length bits ≡ k → thenOnes (bits ++ rest) k ≡ bits
-unfolding thenOnes
+first-bits : (bits rest : List Bool) (k : ℕ) → length bits ≡ k → then_ones (bits ++ rest) k ≡ bits
+unfolding then_ones
 first-bits [] rest zero e = refl
 first-bits [] rest (suc k) e = absurd (omega arith)
 first-bits (b ∷ bits) rest zero e = absurd (omega arith)
 first-bits (b ∷ bits) rest (suc k) e = ap (λ l. b ∷ l) (first-bits bits rest k (omega arith))
 
-values-from-length : (byte : ℕ → ℕ) (k a : ℕ) → length (valuesFrom byte a k) ≡ k
-unfolding valuesFrom
+values-from-length : (byte : ℕ → ℕ) (k a : ℕ) → length (values_from byte a k) ≡ k
+unfolding values_from
 values-from-length byte zero a = refl
 values-from-length byte (suc k) a = ap suc (values-from-length byte k (a + 1))
 
 -- ---- the CRC
 
 -- bytes with the same bits have the same CRC after the same header
-crc-by-bits : (head first bytes : List ℕ) → bitsOfBytes first ≡ bitsOfBytes bytes → crcOf (head ++ first) ≡ crcOf (head ++ bytes)
+crc-by-bits : (head first bytes : List ℕ) → bits_of_bytes first ≡ bits_of_bytes bytes → crc_of (head ++ first) ≡ crc_of (head ++ bytes)
 crc-by-bits head first bytes e =
-    ap (λ (r : ℕ). bits_of 16 (crc16Word r))
-    (bytes_after crc16Polynomial 0 head first ∙ bytes_bits crc16Polynomial _ first
-    ∙ ap (crcBits crc16Polynomial (crc16Of head)) e
-    ∙ sym (bytes_after crc16Polynomial 0 head bytes ∙ bytes_bits crc16Polynomial _ bytes))
+    ap (λ (r : ℕ). bits_of 16 (crc16_word r))
+    (bytes_after crc16_polynomial 0 head first ∙ bytes_bits crc16_polynomial _ first
+    ∙ ap (crc_bits crc16_polynomial (crc16_of head)) e
+    ∙ sym (bytes_after crc16_polynomial 0 head bytes ∙ bytes_bits crc16_polynomial _ bytes))
 
 module _ (n : ℕ) (low : n ≤ 256) where
   -- a CRC over the kept address that is that of the address as sent
   not-dropped : (command a : ℕ) (bytes : List ℕ) → a < 65536
-      → crcOf (header command (keptAddress n a) ++ bytes) ≡ crcOf (header command a ++ bytes) → a < 2 ^ addressBits n
-  not-dropped command a bytes la e = go (dec_lt a (2 ^ addressBits n))
+      → crc_of (header command (kept_address n a) ++ bytes) ≡ crc_of (header command a ++ bytes) → a < 2 ^ address_bits n
+  not-dropped command a bytes la e = go (dec_lt a (2 ^ address_bits n))
     where
-      go : Dec (a < 2 ^ addressBits n) → a < 2 ^ addressBits n
+      go : Dec (a < 2 ^ address_bits n) → a < 2 ^ address_bits n
       go (yes lt) = lt
       go (no ge) = absurd ((address-laws n low).differs command a bytes (omega arith) la e)
 
   -- what read slots meet of a stream that begins with bytes and the CRC of command, address k and these bytes
   block-heard : (c : Chip) (ms ls : List Bool) (command a k : ℕ) (first : List ℕ) (rest : List Bool) {stream : List Bool}
-      → stream ≡ (bitsOfBytes first ++ crcOf (header command k ++ first)) ++ rest → Draws n c ms ls (header command a) stream
-      → answers n c (reset ∷ slots (ms ++ (bitsOfBytes (header command a) ++ ones (8 * length first + 16))))
-      ≡ map accepted (false ∷ (ls ++ (bitsOfBytes (header command a) ++ (bitsOfBytes first ++ crcOf (header command k ++ first)))))
+      → stream ≡ (bits_of_bytes first ++ crc_of (header command k ++ first)) ++ rest → Draws n c ms ls (header command a) stream
+      → answers n c (reset ∷ slots (ms ++ (bits_of_bytes (header command a) ++ ones (8 * length first + 16))))
+      ≡ map accepted (false ∷ (ls ++ (bits_of_bytes (header command a) ++ (bits_of_bytes first ++ crc_of (header command k ++ first)))))
   block-heard c ms ls command a k first rest {stream} begins draws =
       let m = 8 * length first + 16 in
-      let x = bitsOfBytes first ++ crcOf (header command k ++ first) in
-      let size : length (bitsOfBytes first ++ crcOf (header command k ++ first)) ≡ 8 * length first + 16 =
-      length-append (bitsOfBytes first) (crcOf (header command k ++ first)) ∙ ap₂ ◌+◌ (bytes-length first) (bits-length 16 _) in
-      let line : lines (ones m) (thenOnes stream (length (ones m))) ≡ x =
-      ap₂ (λ (s : List Bool) (l : ℕ). lines (ones m) (thenOnes s l)) begins (length-replicate m _)
+      let x = bits_of_bytes first ++ crc_of (header command k ++ first) in
+      let size : length (bits_of_bytes first ++ crc_of (header command k ++ first)) ≡ 8 * length first + 16 =
+      length-append (bits_of_bytes first) (crc_of (header command k ++ first)) ∙ ap₂ ◌+◌ (bytes-length first) (bits-length 16 _) in
+      let line : lines (ones m) (then_ones stream (length (ones m))) ≡ x =
+      ap₂ (λ (s : List Bool) (l : ℕ). lines (ones m) (then_ones s l)) begins (length-replicate m _)
       ∙ ap (lines (ones m)) (first-bits x rest m size) ∙ lines-read m x size in
-      draws (ones m) ∙ ap (λ (l : List Bool). map accepted (false ∷ (ls ++ (bitsOfBytes (header command a) ++ l)))) line
+      draws (ones m) ∙ ap (λ (l : List Bool). map accepted (false ∷ (ls ++ (bits_of_bytes (header command a) ++ l)))) line
 
   noticed : (c : Chip) (ms ls : List Bool) (command a : ℕ) (first bytes : List ℕ) (rest : List Bool) {stream : List Bool} → a < 65536 → length first ≡ length bytes
-      → stream ≡ (bitsOfBytes first ++ crcOf (header command (keptAddress n a) ++ first)) ++ rest → Draws n c ms ls (header command a) stream
-      → HeardWithCrc n c ms ls command a bytes → a < 2 ^ addressBits n
+      → stream ≡ (bits_of_bytes first ++ crc_of (header command (kept_address n a) ++ first)) ++ rest → Draws n c ms ls (header command a) stream
+      → HeardWithCrc n c ms ls command a bytes → a < 2 ^ address_bits n
   noticed c ms ls command a first bytes rest la same begins draws fits =
-      let k = keptAddress n a in
-      let x = bitsOfBytes first ++ crcOf (header command k ++ first) in
-      let y = bitsOfBytes bytes ++ crcOf (header command a ++ bytes) in
-      let sent = bitsOfBytes (header command a) in
+      let k = kept_address n a in
+      let x = bits_of_bytes first ++ crc_of (header command k ++ first) in
+      let y = bits_of_bytes bytes ++ crc_of (header command a ++ bytes) in
+      let sent = bits_of_bytes (header command a) in
       let heard : false ∷ (ls ++ (sent ++ x)) ≡ false ∷ (ls ++ (sent ++ y)) =
       told-once _ _
       (sym (block-heard c ms ls command a k first rest begins draws)
       ∙ ap (λ (l : ℕ). answers n c (reset ∷ slots (ms ++ (sent ++ ones (8 * l + 16))))) same ∙ fits) in
       let block : x ≡ y = append_cancel_left sent x y (append_cancel_left ls _ _ (tail-eq_of_cons-eq heard)) in
       let m = 8 * length bytes in
-      let front : length (bitsOfBytes first) ≡ 8 * length bytes = bytes-length first ∙ ap (λ (l : ℕ). 8 * l) same in
-      let bits : bitsOfBytes first ≡ bitsOfBytes bytes =
-      sym (take_at (bitsOfBytes first) _ m front) ∙ ap (take m) block ∙ take_at (bitsOfBytes bytes) _ m (bytes-length bytes) in
-      let crcs : crcOf (header command k ++ first) ≡ crcOf (header command a ++ bytes) =
-      sym (drop_at (bitsOfBytes first) _ m front) ∙ ap (drop m) block ∙ drop_at (bitsOfBytes bytes) _ m (bytes-length bytes) in
+      let front : length (bits_of_bytes first) ≡ 8 * length bytes = bytes-length first ∙ ap (λ (l : ℕ). 8 * l) same in
+      let bits : bits_of_bytes first ≡ bits_of_bytes bytes =
+      sym (take_at (bits_of_bytes first) _ m front) ∙ ap (take m) block ∙ take_at (bits_of_bytes bytes) _ m (bytes-length bytes) in
+      let crcs : crc_of (header command k ++ first) ≡ crc_of (header command a ++ bytes) =
+      sym (drop_at (bits_of_bytes first) _ m front) ∙ ap (drop m) block ∙ drop_at (bits_of_bytes bytes) _ m (bytes-length bytes) in
       not-dropped command a bytes la (sym (crc-by-bits (header command k) first bytes bits) ∙ crcs)
 
   -- ---- the streams, each with the bytes before its first CRC
 
   memory-begins : (img : List ℕ) (k : ℕ)
-      → let first = valuesFrom (dataByte n img) k (dataSize n - k) in
-      memoryStream n img k ≡ (bitsOfBytes first ++ crcOf (header 0xF0 k ++ first)) ++ []
+      → let first = values_from (data_byte n img) k (data_size n - k) in
+      memory_stream n img k ≡ (bits_of_bytes first ++ crc_of (header 0xF0 k ++ first)) ++ []
   memory-begins img k = sym (append-nil _)
 
   -- the rest of the page, and the later pages
-  abbrev afterRedirection : List ℕ → ℕ → List Bool
-  afterRedirection img k =
-      let page = valuesFrom (dataByte n img) k (32 - k % 32) in
-      (bitsOfBytes page ++ crcOf page) ++ extendedPages n img (k / 32 + 1) (n - (k / 32 + 1))
+  abbrev after_redirection : List ℕ → ℕ → List Bool
+  after_redirection img k =
+      let page = values_from (data_byte n img) k (32 - k % 32) in
+      (bits_of_bytes page ++ crc_of page) ++ extended_pages n img (k / 32 + 1) (n - (k / 32 + 1))
 
   extended-begins : (img : List ℕ) (k : ℕ)
-      → let first = redirectionOf n img (k / 32) ∷ [] in
-      extendedStream n img k ≡ (bitsOfBytes first ++ crcOf (header 0xA5 k ++ first)) ++ afterRedirection img k
-  unfolding bitsOfBytes
+      → let first = redirection_of n img (k / 32) ∷ [] in
+      extended_stream n img k ≡ (bits_of_bytes first ++ crc_of (header 0xA5 k ++ first)) ++ after_redirection img k
+  unfolding bits_of_bytes
   extended-begins img k = simp (append-nil, append_assoc)
 
   module _ (whole : n % 8 ≡ 0) where
-    in_memory : (space : Space) (a : ℕ) → a < limitOf n space → isAddress n space a ≡ true
-    unfolding isAddress
-    in_memory space a lt = lt-ltb a (limitOf n space) lt
+    in_memory : (space : Space) (a : ℕ) → a < limit_of n space → is_address n space a ≡ true
+    unfolding is_address
+    in_memory space a lt = lt-ltb a (limit_of n space) lt
 
     -- what is drawn from an address of the memory: as kept, and where it is one as sent
-    from-kept : (c : Chip) (ms ls : List Bool) (space : Space) (command a : ℕ) (stream : ℕ → List Bool) → keptAddress n a < limitOf n space
-        → Draws n c ms ls (header command a) (startingAt n space a stream) → Draws n c ms ls (header command a) (stream (keptAddress n a))
-    from-kept c ms ls space command a stream lt d = rw (in_memory space (keptAddress n a) lt) at d
+    from-kept : (c : Chip) (ms ls : List Bool) (space : Space) (command a : ℕ) (stream : ℕ → List Bool) → kept_address n a < limit_of n space
+        → Draws n c ms ls (header command a) (starting_at n space a stream) → Draws n c ms ls (header command a) (stream (kept_address n a))
+    from-kept c ms ls space command a stream lt d = rw (in_memory space (kept_address n a) lt) at d
 
-    from-own : (c : Chip) (ms ls : List Bool) (space : Space) (command a : ℕ) (stream : ℕ → List Bool) → a < limitOf n space
-        → Draws n c ms ls (header command a) (startingAt n space a stream) → Draws n c ms ls (header command a) (stream a)
+    from-own : (c : Chip) (ms ls : List Bool) (space : Space) (command a : ℕ) (stream : ℕ → List Bool) → a < limit_of n space
+        → Draws n c ms ls (header command a) (starting_at n space a stream) → Draws n c ms ls (header command a) (stream a)
     from-own c ms ls space command a stream lt d = rw ((address-laws n low).own space a lt, in_memory space a lt) at d
 
     write-heard : (c : Chip) {ms ls : List Bool} (space : Space) (a byte : ℕ) → Ready n c → Selection c.state.number ms ls → a < 65536
-        → keptAddress n a < limitOf n space → byte < 256
-        → let sent = bitsOfBytes (header (writeCommand Ordinary space) a) in
+        → kept_address n a < limit_of n space → byte < 256
+        → let sent = bits_of_bytes (header (write_command Ordinary space) a) in
         answers n c (reset ∷ (slots (ms ++ sent) ++ (slots (bits_of 8 byte) ++ reading 16)))
-        ≡ map accepted (false ∷ ((ls ++ sent) ++ (bits_of 8 byte ++ crcOf (header (writeCommand Ordinary space) (keptAddress n a) ++ (byte ∷ [])))))
-    unfolding crcBytes
+        ≡ map accepted (false ∷ ((ls ++ sent) ++ (bits_of 8 byte ++ crc_of (header (write_command Ordinary space) (kept_address n a) ++ (byte ∷ [])))))
+    unfolding crc_bytes
     write-heard c space a byte ok sel la lt small = (byte-arms n whole c Ordinary space a byte ok sel la lt small).told
 
     write-noticed : (c : Chip) {ms ls : List Bool} (space : Space) (a byte : ℕ) → Ready n c → Selection c.state.number ms ls → a < 65536
-        → keptAddress n a < limitOf n space → byte < 256 → WriteFits n c ms ls space a byte → a < 2 ^ addressBits n
+        → kept_address n a < limit_of n space → byte < 256 → WriteFits n c ms ls space a byte → a < 2 ^ address_bits n
     write-noticed c {ms} {ls} space a byte ok sel la lt small fits =
         let heard = tail-eq_of_cons-eq (told-once _ _ (sym (write-heard c space a byte ok sel la lt small) ∙ fits)) in
-        not-dropped (writeCommand Ordinary space) a (byte ∷ []) la
-        (append_cancel_left (bits_of 8 byte) _ _ (append_cancel_left (ls ++ bitsOfBytes (header (writeCommand Ordinary space) a)) _ _ heard))
+        not-dropped (write_command Ordinary space) a (byte ∷ []) la
+        (append_cancel_left (bits_of 8 byte) _ _ (append_cancel_left (ls ++ bits_of_bytes (header (write_command Ordinary space) a)) _ _ heard))
 
-    write-fits : (c : Chip) {ms ls : List Bool} (space : Space) (a byte : ℕ) → Ready n c → Selection c.state.number ms ls → a < limitOf n space → byte < 256
+    write-fits : (c : Chip) {ms ls : List Bool} (space : Space) (a byte : ℕ) → Ready n c → Selection c.state.number ms ls → a < limit_of n space → byte < 256
         → WriteFits n c ms ls space a byte
     write-fits c space a byte ok sel lt small =
         let own = (address-laws n low).own space a lt in
         rw own at (write-heard c space a byte ok sel (omega (arith, limit-fits n space low)) (rw own lt) small)
 
     pub notice-laws : NoticeLaws n
-    unfolding limitOf
+    unfolding limit_of
     notice-laws =
         let reads = read-sessions n whole low in
         record {
           memory = λ c {ms} {ls} a bytes ok sel la lt size fits.
-              let k = keptAddress n a in
-              noticed c ms ls 0xF0 a _ bytes [] la (values-from-length (dataByte n c.image) (dataSize n - k) k ∙ sym size) (memory-begins c.image k)
-              (from-kept c ms ls Data 0xF0 a (memoryStream n c.image) lt (reads.memory c a ok sel la)) fits;
+              let k = kept_address n a in
+              noticed c ms ls 0xF0 a _ bytes [] la (values-from-length (data_byte n c.image) (data_size n - k) k ∙ sym size) (memory-begins c.image k)
+              (from-kept c ms ls Data 0xF0 a (memory_stream n c.image) lt (reads.memory c a ok sel la)) fits;
           status = λ c {ms} {ls} a bytes ok sel la lt size fits.
-              let k = keptAddress n a in
-              noticed c ms ls 0xAA a _ bytes _ la (values-from-length (statusByte n c.image) (8 - k % 8) k ∙ sym size) refl
-              (from-kept c ms ls Status 0xAA a (statusStream n c.image) lt (reads.status c a ok sel la)) fits;
+              let k = kept_address n a in
+              noticed c ms ls 0xAA a _ bytes _ la (values-from-length (status_byte n c.image) (8 - k % 8) k ∙ sym size) refl
+              (from-kept c ms ls Status 0xAA a (status_stream n c.image) lt (reads.status c a ok sel la)) fits;
           extended = λ c {ms} {ls} a byte ok sel la lt fits.
-              noticed c ms ls 0xA5 a _ (byte ∷ []) _ la refl (extended-begins c.image (keptAddress n a))
-              (from-kept c ms ls Data 0xA5 a (extendedStream n c.image) lt (reads.extended c a ok sel la)) fits;
+              noticed c ms ls 0xA5 a _ (byte ∷ []) _ la refl (extended-begins c.image (kept_address n a))
+              (from-kept c ms ls Data 0xA5 a (extended_stream n c.image) lt (reads.extended c a ok sel la)) fits;
           write = write-noticed;
           memory-fits = λ c {ms} {ls} a ok sel lt.
               block-heard c ms ls 0xF0 a a _ [] (memory-begins c.image a)
-              (from-own c ms ls Data 0xF0 a (memoryStream n c.image) lt (reads.memory c a ok sel (omega arith)));
+              (from-own c ms ls Data 0xF0 a (memory_stream n c.image) lt (reads.memory c a ok sel (omega arith)));
           status-fits = λ c {ms} {ls} a ok sel lt.
-              block-heard c ms ls 0xAA a a (valuesFrom (statusByte n c.image) a (8 - a % 8)) _ refl
-              (from-own c ms ls Status 0xAA a (statusStream n c.image) lt (reads.status c a ok sel (omega arith)));
+              block-heard c ms ls 0xAA a a (values_from (status_byte n c.image) a (8 - a % 8)) _ refl
+              (from-own c ms ls Status 0xAA a (status_stream n c.image) lt (reads.status c a ok sel (omega arith)));
           extended_fits = λ c {ms} {ls} a ok sel lt.
-              block-heard c ms ls 0xA5 a a (redirectionOf n c.image (a / 32) ∷ []) _ (extended-begins c.image a)
-              (from-own c ms ls Data 0xA5 a (extendedStream n c.image) lt (reads.extended c a ok sel (omega arith)));
+              block-heard c ms ls 0xA5 a a (redirection_of n c.image (a / 32) ∷ []) _ (extended-begins c.image a)
+              (from-own c ms ls Data 0xA5 a (extended_stream n c.image) lt (reads.extended c a ok sel (omega arith)));
           write-fits = write-fits;
         }

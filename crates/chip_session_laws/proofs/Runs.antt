@@ -7,10 +7,10 @@ use lib.ListN.{length}
 use borrow.Author.Tests.{eq-eqb}
 use Rattle.base_types.specs.Outcome.{accepted}
 use Rattle.bus_events.specs.declared.Event.{Event}
-use Rattle.chip_memory.specs.Layout.{imageSize, isImage}
-use Rattle.chip_entries.specs.Event.{replyOf}
+use Rattle.chip_memory.specs.Layout.{image_size, is_image}
+use Rattle.chip_entries.specs.Event.{reply_of}
 use Rattle.chip_entries.specs.Run.{Chip, next, draws, run, answers}
-use Rattle.chip_entries.proofs.Kept.{accepts, afterEvent, next-is}
+use Rattle.chip_entries.proofs.Kept.{accepts, after_event, next-is}
 use Rattle.chip_session_laws.specs.Session.{Ready, Reaches}
 
 pub map-append : {A B : Type 0} (f : A → B) (xs ys : List A) → map f (xs ++ ys) ≡ map f xs ++ map f ys
@@ -46,12 +46,12 @@ module _ {n : ℕ} where
       answers-append n c xs ys ∙ ap₂ ◌++◌ p.told (ap (λ x. answers n x ys) p.there ∙ q) ∙ sym (map-append accepted us vs)
 
 module _ (n : ℕ) (c : Chip) (ok : Ready n c) where
-  whole-image : isImage n c.image ≡ true
-  unfolding isImage
-  whole-image = eq-eqb (length c.image) (imageSize n) ok.sized
+  whole-image : is_image n c.image ≡ true
+  unfolding is_image
+  whole-image = eq-eqb (length c.image) (image_size n) ok.sized
 
-  pub ready-next : (e : Event) → next n c e ≡ afterEvent n c e
+  pub ready-next : (e : Event) → next n c e ≡ after_event n c e
   ready-next e = next-is n c whole-image ok.ranged e
 
-  pub event : (e : Event) → Reaches n c (e ∷ []) (replyOf c.state.stage e c.state.number ∷ []) (afterEvent n c e)
+  pub event : (e : Event) → Reaches n c (e ∷ []) (reply_of c.state.stage e c.state.number ∷ []) (after_event n c e)
   event e = record { told = unfold answers in ap (λ a. a ∷ []) (accepts n c whole-image ok.ranged e); there = unfold run in ready-next e }

@@ -8,7 +8,7 @@ use native.Mathlib.Omega.{arith}
 use lib.ListN.{length, length-append}
 use borrow.Author.Tests.{lt-ltb}
 use Rattle.base_types.specs.Outcome.{accepted}
-use Rattle.base_types.specs.Bits.{odd, bits_of, bitsOfBytes, shiftIn}
+use Rattle.base_types.specs.Bits.{odd, bits_of, bits_of_bytes, shift_in}
 use Rattle.base_types.proofs.Collect.{collect, collected}
 use Rattle.bus_events.specs.declared.Event.{Event}
 use Rattle.bus_events.specs.Slots.{slots, ones, lines}
@@ -20,13 +20,13 @@ use Rattle.chip_stage.specs.declared.stage.Incoming.{Incoming}
 use Rattle.chip_stage.specs.declared.stage.MemoryStage.{MemoryStage}
 use Rattle.chip_stage.specs.declared.stage.MemoryStage.TheVariants.{Silent, Receive}
 use Rattle.chip_stage.specs.Stages.{receiving}
-use Rattle.chip_function.specs.Functions.{received, receiveBit, memory_slot, memoryBit}
+use Rattle.chip_function.specs.Functions.{received, receive_bit, memory_slot, memory_bit}
 use Rattle.chip_function_laws.specs.Reads.{Sends, none, next}
 use Rattle.chip_entries.specs.declared.event.Stage.TheVariants.{Rom, Memory}
-use Rattle.chip_entries.specs.Event.{afterRom, stageSlot, stageBit, replyOf, imageAfter, stageAfter}
+use Rattle.chip_entries.specs.Event.{after_rom, stage_slot, stage_bit, reply_of, image_after, stage_after}
 use Rattle.chip_entries.specs.Run.{Chip, run, answers}
-use Rattle.chip_session_laws.specs.Session.{Ready, ◌at◌, Reaches, thenOnes}
-use Rattle.chip_session_laws.specs.Laws.{isArmed}
+use Rattle.chip_session_laws.specs.Session.{Ready, ◌at◌, Reaches, then_ones}
+use Rattle.chip_session_laws.specs.Laws.{is_armed}
 use Rattle.chip_session_laws.proofs.Runs.{stays, ◌then◌, further, event}
 use Rattle.chip_session_laws.proofs.States.{keeps, and-with-true}
 
@@ -57,15 +57,15 @@ module _ (n : ℕ) (whole : n % 8 ≡ 0) where
   ready {c} {d} {es} ok p = subst (Ready n) p.there (ready-run es c ok)
 
   pub one-slot : (c : Chip) (m : Bool) → Ready n c
-      → Reaches n c (slot m ∷ []) ((m && stageBit c.state.stage c.state.number) ∷ []) (c at stageSlot n c.state.stage m c.state.number c.image)
-  unfolding replyOf stageAfter imageAfter
+      → Reaches n c (slot m ∷ []) ((m && stage_bit c.state.stage c.state.number) ∷ []) (c at stage_slot n c.state.stage m c.state.number c.image)
+  unfolding reply_of stage_after image_after
   one-slot c m ok = event n c ok (slot m)
 
   -- ---- through a ROM function
 
   pub over-rom : (c : Chip) {r : RomStage} {ms bs : List Bool} {o : RomOutcome} → Roms c.state.number r ms bs o → Ready n (c at Rom r)
-      → Reaches n (c at Rom r) (slots ms) (lines ms bs) (c at afterRom o)
-  unfolding stageBit stageSlot afterRom
+      → Reaches n (c at Rom r) (slots ms) (lines ms bs) (c at after_rom o)
+  unfolding stage_bit stage_slot after_rom
   over-rom c {r} (last {m = m} hb hs) ok = rw (hb, hs) at (one-slot (c at Rom r) m ok)
   over-rom c {r} (more {m = m} hb hs rest) ok =
       let first = rw (hb, hs) at (one-slot (c at Rom r) m ok) in
@@ -73,9 +73,9 @@ module _ (n : ℕ) (whole : n % 8 ≡ 0) where
 
   -- ---- while the chip sends
 
-  one-sent : (c : Chip) (m s : MemoryStage) (b r : Bool) → memoryBit m ≡ b → ((bit : Bool) → memory_slot n m bit c.image ≡ s) → Ready n (c at Memory m)
+  one-sent : (c : Chip) (m s : MemoryStage) (b r : Bool) → memory_bit m ≡ b → ((bit : Bool) → memory_slot n m bit c.image ≡ s) → Ready n (c at Memory m)
       → Reaches n (c at Memory m) (slot r ∷ []) ((r && b) ∷ []) (c at Memory s)
-  unfolding stageBit stageSlot
+  unfolding stage_bit stage_slot
   one-sent c m s b r hb hs ok = rw (hb, hs r) at (one-slot (c at Memory m) r ok)
 
   pub over-memory : (c : Chip) {m e : MemoryStage} {bs : List Bool} (ms : List Bool) → Sends n c.image m bs e → length ms ≡ length bs → Ready n (c at Memory m)
@@ -89,48 +89,48 @@ module _ (n : ℕ) (whole : n % 8 ≡ 0) where
 
   -- what any further slots draw of a stream that ends in silence
   pub draws-stream : (c : Chip) {m : MemoryStage} {bs : List Bool} (rs : List Bool) → Sends n c.image m bs Silent → Ready n (c at Memory m)
-      → answers n (c at Memory m) (slots rs) ≡ map accepted (lines rs (thenOnes bs (length rs)))
-  unfolding answers thenOnes memoryBit memory_slot
+      → answers n (c at Memory m) (slots rs) ≡ map accepted (lines rs (then_ones bs (length rs)))
+  unfolding answers then_ones memory_bit memory_slot
   draws-stream c [] none ok = refl
   draws-stream c [] (next hb hs rest) ok = refl
   draws-stream c (r ∷ rs) none ok =
       let first = one-sent c Silent Silent true r refl (λ bit. refl) ok in
-      further (slots rs) (lines rs (thenOnes [] (length rs))) first (draws-stream c rs none (ready ok first))
+      further (slots rs) (lines rs (then_ones [] (length rs))) first (draws-stream c rs none (ready ok first))
   draws-stream c {m} (r ∷ rs) (next {s = s} {b = b} {bs = bs} hb hs rest) ok =
       let first = one-sent c m s b r hb hs ok in
-      further (slots rs) (lines rs (thenOnes bs (length rs))) first (draws-stream c rs rest (ready ok first))
+      further (slots rs) (lines rs (then_ones bs (length rs))) first (draws-stream c rs rest (ready ok first))
 
   -- ---- while the chip takes in a byte
 
   one-taken : (c : Chip) (i : Incoming) (k v crc : ℕ) (m : Bool) → Ready n (c at Memory (Receive i k v crc))
-      → Reaches n (c at Memory (Receive i k v crc)) (slot m ∷ []) (m ∷ []) (c at Memory (receiveBit n i k (shiftIn v m) crc c.image))
-  unfolding stageBit stageSlot memoryBit memory_slot
+      → Reaches n (c at Memory (Receive i k v crc)) (slot m ∷ []) (m ∷ []) (c at Memory (receive_bit n i k (shift_in v m) crc c.image))
+  unfolding stage_bit stage_slot memory_bit memory_slot
   one-taken c i k v crc m ok = rw (and-with-true m) at (one-slot (c at Memory (Receive i k v crc)) m ok)
 
-  eighth : (i : Incoming) (k v crc : ℕ) (img : List ℕ) → k ≡ 7 → receiveBit n i k v crc img ≡ received n i v crc img
-  unfolding receiveBit
+  eighth : (i : Incoming) (k v crc : ℕ) (img : List ℕ) → k ≡ 7 → receive_bit n i k v crc img ≡ received n i v crc img
+  unfolding receive_bit
   eighth i k v crc img e = simp e
 
-  earlier : (i : Incoming) (k v crc : ℕ) (img : List ℕ) → k < 7 → receiveBit n i k v crc img ≡ Receive i (k + 1) v crc
-  unfolding receiveBit
+  earlier : (i : Incoming) (k v crc : ℕ) (img : List ℕ) → k < 7 → receive_bit n i k v crc img ≡ Receive i (k + 1) v crc
+  unfolding receive_bit
   earlier i k v crc img lt = simp (lt-ltb k 7 lt)
 
   bits_in : (c : Chip) (i : Incoming) (crc : ℕ) (m : Bool) (ms : List Bool) (k v : ℕ) → k + length ms ≡ 7 → Ready n (c at Memory (Receive i k v crc))
       → Reaches n (c at Memory (Receive i k v crc)) (slots (m ∷ ms)) (m ∷ ms) (c at Memory (received n i (collect v (m ∷ ms)) crc c.image))
-  bits_in c i crc m [] k v l ok = rw (eighth i k (shiftIn v m) crc c.image (sym (add-zero k) ∙ l)) at (one-taken c i k v crc m ok)
+  bits_in c i crc m [] k v l ok = rw (eighth i k (shift_in v m) crc c.image (sym (add-zero k) ∙ l)) at (one-taken c i k v crc m ok)
   bits_in c i crc m (m' ∷ ms) k v l ok =
-      let first = rw (earlier i k (shiftIn v m) crc c.image (omega arith)) at (one-taken c i k v crc m ok) in
-      first then bits_in c i crc m' ms (k + 1) (shiftIn v m) (omega arith) (ready ok first)
+      let first = rw (earlier i k (shift_in v m) crc c.image (omega arith)) at (one-taken c i k v crc m ok) in
+      first then bits_in c i crc m' ms (k + 1) (shift_in v m) (omega arith) (ready ok first)
 
   -- with fewer than eight bits in, the chip is not armed
   pub bits-unarmed : (c : Chip) (i : Incoming) (crc : ℕ) (ms : List Bool) (k v : ℕ) → k + length ms < 8 → Ready n (c at Memory (Receive i k v crc))
-      → isArmed (run n (c at Memory (Receive i k v crc)) (slots ms)).state.stage ≡ false
+      → is_armed (run n (c at Memory (Receive i k v crc)) (slots ms)).state.stage ≡ false
   unfolding run
   bits-unarmed c i crc [] k v lt ok = refl
   bits-unarmed c i crc (m ∷ ms) k v lt ok =
-      let first = rw (earlier i k (shiftIn v m) crc c.image (omega arith)) at (one-taken c i k v crc m ok) in
-      subst (λ (d : Chip). isArmed (run n d (slots ms)).state.stage ≡ false) (sym first.there)
-      (bits-unarmed c i crc ms (k + 1) (shiftIn v m) (omega arith) (ready ok first))
+      let first = rw (earlier i k (shift_in v m) crc c.image (omega arith)) at (one-taken c i k v crc m ok) in
+      subst (λ (d : Chip). is_armed (run n d (slots ms)).state.stage ≡ false) (sym first.there)
+      (bits-unarmed c i crc ms (k + 1) (shift_in v m) (omega arith) (ready ok first))
 
   pub byte-in : (c : Chip) (i : Incoming) (crc byte : ℕ) → byte < 256 → Ready n (c at Memory (receiving i crc))
       → Reaches n (c at Memory (receiving i crc)) (slots (bits_of 8 byte)) (bits_of 8 byte) (c at Memory (received n i byte crc c.image))

@@ -4,24 +4,24 @@ use mathlib.Core.Path.{◌≡◌, refl, sym, ap, ◌∙◌, subst}
 use mathlib.Core.Bool.{Bool, true, false, ◌&&◌}
 use mathlib.Core.List.{List, [], ◌∷◌}
 use native.Mathlib.Omega.{arith}
-use Rattle.base_types.specs.Outcome.{Outcome, refused, accepted, unlessRefused}
+use Rattle.base_types.specs.Outcome.{Outcome, refused, accepted, unless_refused}
 use Rattle.base_types.specs.declared.address.Target.{Target}
 use Rattle.base_types.specs.declared.write_mode.WriteMode.{WriteMode}
 use Rattle.bus_events.specs.declared.Event.{Event}
 use Rattle.bus_events.specs.declared.Event.TheVariants.{Reset, Slot, Pulse, PowerLoss}
-use Rattle.bus_events.specs.Events.{slot, pulse, powerLoss}
+use Rattle.bus_events.specs.Events.{slot, pulse, power_loss}
 use Rattle.chip_memory.specs.Write.{programmed}
 use Rattle.chip_stage.specs.declared.stage.MemoryStage.TheVariants.{Silent, Receive, Send, Armed}
-use Rattle.chip_function.specs.Functions.{memory_slot, memoryBit, pulseImage, pulseStage}
-use Rattle.chip_function.specs.Ranges.{memoryInRange}
+use Rattle.chip_function.specs.Functions.{memory_slot, memory_bit, pulse_image, pulse_stage}
+use Rattle.chip_function.specs.Ranges.{memory_in_range}
 use Rattle.chip_entries.specs.declared.event.Stage.{Stage}
 use Rattle.chip_entries.specs.declared.event.Stage.TheVariants.{Rom, Memory}
 use Rattle.chip_entries.specs.declared.event.State.{State}
-use Rattle.chip_entries.specs.Event.{silent, powerUp, stageSlot, stageBit, pulseImageOf, stagePulse, chipInRange, replyOf, imageAfter, stageAfter, eventState, eventImage}
-use Rattle.chip_entries.proofs.Kept.{stage-kept, image-length, afterEvent}
+use Rattle.chip_entries.specs.Event.{silent, power_up, stage_slot, stage_bit, pulse_image_of, stage_pulse, chip_in_range, reply_of, image_after, stage_after, event_state, event_image}
+use Rattle.chip_entries.proofs.Kept.{stage-kept, image-length, after_event}
 use Rattle.chip_entries.specs.Run.{Chip, next, draws}
 use Rattle.chip_session_laws.specs.Session.{Ready, ◌at◌, Reaches}
-use Rattle.chip_session_laws.specs.Laws.{isArmed, isPulse, isReset, silentReply, StateLaws}
+use Rattle.chip_session_laws.specs.Laws.{is_armed, is_pulse, is_reset, silent_reply, StateLaws}
 use Rattle.chip_session_laws.proofs.Runs.{event, ready-next}
 
 pub and-with-true : (b : Bool) → (b && true) ≡ b
@@ -31,11 +31,11 @@ and-with-true false = refl
 -- ---- ranges
 
 module _ (n : ℕ) (whole : n % 8 ≡ 0) where
-  pub ready-after : (c : Chip) (e : Event) (ok : Ready n c) → Ready n (afterEvent n c e)
+  pub ready-after : (c : Chip) (e : Event) (ok : Ready n c) → Ready n (after_event n c e)
   ready-after c e ok =
       record {
         sized = image-length n c.state.stage e c.image ∙ ok.sized;
-        ranged = stage-kept n whole c.state.stage e c.state.number (imageAfter n c.state.stage e c.image) ok.ranged;
+        ranged = stage-kept n whole c.state.stage e c.state.number (image_after n c.state.stage e c.image) ok.ranged;
         eight = ok.eight;
       }
 
@@ -45,78 +45,78 @@ module _ (n : ℕ) (whole : n % 8 ≡ 0) where
 -- ---- what changes the image, and what the number
 
 module _ (n : ℕ) where
-  unarmed : (s : Stage) (img : List ℕ) → isArmed s ≡ false → pulseImageOf n s img ≡ img
-  unfolding pulseImageOf pulseImage
+  unarmed : (s : Stage) (img : List ℕ) → is_armed s ≡ false → pulse_image_of n s img ≡ img
+  unfolding pulse_image_of pulse_image
   unarmed (Rom r) img h = refl
   unarmed (Memory Silent) img h = refl
   unarmed (Memory (Receive i k register crc)) img h = refl
   unarmed (Memory (Send o left v crc)) img h = refl
   unarmed (Memory (Armed mode t byte)) img h = absurd (let z : ◌≡◌ {A = ℕ} 0 1 = cc in omega arith)
 
-  same-image : (s : Stage) (e : Event) (img : List ℕ) → (isPulse e && isArmed s) ≡ false → imageAfter n s e img ≡ img
-  unfolding imageAfter
+  same-image : (s : Stage) (e : Event) (img : List ℕ) → (is_pulse e && is_armed s) ≡ false → image_after n s e img ≡ img
+  unfolding image_after
   same-image s Reset img h = refl
   same-image s (Slot bit) img h = refl
   same-image s Pulse img h = unarmed s img h
   same-image s PowerLoss img h = refl
 
-  either-image : (t : Outcome Bool) (new old : List ℕ) → new ≡ old → unlessRefused t new old ≡ old
+  either-image : (t : Outcome Bool) (new old : List ℕ) → new ≡ old → unless_refused t new old ≡ old
   either-image (accepted r) new old e = e
   either-image (refused k vs) new old e = refl
 
-  pub image-kept : (c : Chip) (e : Event) → (isPulse e && isArmed c.state.stage) ≡ false → (next n c e).image ≡ c.image
-  unfolding eventImage
+  pub image-kept : (c : Chip) (e : Event) → (is_pulse e && is_armed c.state.stage) ≡ false → (next n c e).image ≡ c.image
+  unfolding event_image
   image-kept c e h = either-image (draws n c e) _ _ (same-image c.state.stage e c.image h)
 
-  either_number : (t : Outcome Bool) (new old : State) → new.number ≡ old.number → (unlessRefused t new old).number ≡ old.number
+  either_number : (t : Outcome Bool) (new old : State) → new.number ≡ old.number → (unless_refused t new old).number ≡ old.number
   either_number (accepted r) new old e = e
   either_number (refused k vs) new old e = refl
 
   pub number-kept : (c : Chip) (e : Event) → (next n c e).state.number ≡ c.state.number
-  unfolding eventState
+  unfolding event_state
   number-kept c e = either_number (draws n c e) _ c.state refl
 
   pub armed-pulse : (c : Chip) (mode : WriteMode) (t : Target) (byte : ℕ) → c.state.stage ≡ Memory (Armed mode t byte) → Ready n c
       → (next n c pulse).image ≡ programmed n c.image t byte
   armed-pulse c mode t byte e ok =
       ap (λ (d : Chip). d.image) (ready-next n c ok pulse)
-      ∙ unfold imageAfter pulseImageOf pulseImage in ap (λ s. imageAfter n s pulse c.image) e
+      ∙ unfold image_after pulse_image_of pulse_image in ap (λ s. image_after n s pulse c.image) e
 
   -- ---- armed, idle and silent chips
 
-  idle : (s : Stage) (img : List ℕ) → isArmed s ≡ false → stagePulse n s img ≡ s
-  unfolding stagePulse pulseStage
+  idle : (s : Stage) (img : List ℕ) → is_armed s ≡ false → stage_pulse n s img ≡ s
+  unfolding stage_pulse pulse_stage
   idle (Rom r) img h = refl
   idle (Memory Silent) img h = refl
   idle (Memory (Receive i k register crc)) img h = refl
   idle (Memory (Send o left v crc)) img h = refl
   idle (Memory (Armed mode t byte)) img h = absurd (let z : ◌≡◌ {A = ℕ} 0 1 = cc in omega arith)
 
-  pub idle-pulse : (c : Chip) → Ready n c → isArmed c.state.stage ≡ false → Reaches n c (pulse ∷ []) (true ∷ []) c
-  unfolding replyOf stageAfter imageAfter
+  pub idle-pulse : (c : Chip) → Ready n c → is_armed c.state.stage ≡ false → Reaches n c (pulse ∷ []) (true ∷ []) c
+  unfolding reply_of stage_after image_after
   idle-pulse c ok h = rw (unarmed c.state.stage c.image h, idle c.state.stage c.image h) at (event n c ok pulse)
 
   pub armed-slot : (c : Chip) (mode : WriteMode) (t : Target) (byte : ℕ) (bit : Bool) → Ready n (c at Memory (Armed mode t byte))
       → Reaches n (c at Memory (Armed mode t byte)) (slot bit ∷ []) (bit ∷ []) (c at silent)
-  unfolding replyOf stageBit memoryBit stageAfter stageSlot memory_slot imageAfter
+  unfolding reply_of stage_bit memory_bit stage_after stage_slot memory_slot image_after
   armed-slot c mode t byte bit ok = rw (and-with-true bit) at (event n (c at Memory (Armed mode t byte)) ok (slot bit))
 
-  pub silent-stays : (c : Chip) (e : Event) → Ready n (c at silent) → isReset e ≡ false → Reaches n (c at silent) (e ∷ []) (silentReply e ∷ []) (c at silent)
-  unfolding replyOf stageBit memoryBit stageAfter stageSlot memory_slot imageAfter pulseImageOf pulseImage stagePulse pulseStage
+  pub silent-stays : (c : Chip) (e : Event) → Ready n (c at silent) → is_reset e ≡ false → Reaches n (c at silent) (e ∷ []) (silent_reply e ∷ []) (c at silent)
+  unfolding reply_of stage_bit memory_bit stage_after stage_slot memory_slot image_after pulse_image_of pulse_image stage_pulse pulse_stage
   silent-stays c Reset ok h = absurd (let z : ◌≡◌ {A = ℕ} 0 1 = cc in omega arith)
   silent-stays c (Slot bit) ok h = rw (and-with-true bit) at (event n (c at silent) ok (slot bit))
   silent-stays c Pulse ok h = event n (c at silent) ok pulse
-  silent-stays c PowerLoss ok h = event n (c at silent) ok powerLoss
+  silent-stays c PowerLoss ok h = event n (c at silent) ok power_loss
 
-  pub power-loss : (c : Chip) → Ready n c → Reaches n c (powerLoss ∷ []) (true ∷ []) (c at silent)
-  unfolding replyOf stageAfter imageAfter
-  power-loss c ok = event n c ok powerLoss
+  pub power-loss : (c : Chip) → Ready n c → Reaches n c (power_loss ∷ []) (true ∷ []) (c at silent)
+  unfolding reply_of stage_after image_after
+  power-loss c ok = event n c ok power_loss
 
 pub state-laws : (n : ℕ) → n % 8 ≡ 0 → StateLaws n
-unfolding powerUp
+unfolding power_up
 state-laws n whole =
     record {
-      power-up = λ number img s e. record { sized = s; ranged = unfold chipInRange memoryInRange in refl; eight = e };
+      power-up = λ number img s e. record { sized = s; ranged = unfold chip_in_range memory_in_range in refl; eight = e };
       keeps = keeps n whole;
       idle-pulse = idle-pulse n;
       image-kept = image-kept n;

@@ -17,22 +17,22 @@ use Rattle.base_types.specs.declared.write_mode.WriteMode.{WriteMode}
 use Rattle.bus_events.specs.Events.{pulse}
 use Rattle.chip_memory.specs.declared.layout.Field.{Field}
 use Rattle.chip_memory.specs.declared.layout.Field.TheVariants.{DataProtection, RedirectionProtection}
-use Rattle.chip_memory.specs.Layout.{firstAddress, imageSize, isImage, isWithin, is_held}
-use Rattle.chip_memory.specs.Image.{dataByte, statusByte, targetByte, redirectionOf, pageBit}
+use Rattle.chip_memory.specs.Layout.{first_address, image_size, is_image, is_within, is_held}
+use Rattle.chip_memory.specs.Image.{data_byte, status_byte, target_byte, redirection_of, page_bit}
 use Rattle.chip_memory.proofs.Gaps.{redirection-held as redirection-byte-held}
-use Rattle.chip_memory.specs.Write.{bit_of, statusWritable, isWritable, index_of, programmed}
+use Rattle.chip_memory.specs.Write.{bit_of, status_writable, is_writable, index_of, programmed}
 use Rattle.chip_stage.specs.declared.stage.MemoryStage.TheVariants.{Armed}
-use Rattle.chip_stage.specs.Limits.{limitOf, isAddress, targetAt, targetInRange}
-use Rattle.chip_function.specs.Functions.{pulseImage}
-use Rattle.chip_function.specs.Ranges.{memoryInRange}
+use Rattle.chip_stage.specs.Limits.{limit_of, is_address, target_at, target_in_range}
+use Rattle.chip_function.specs.Functions.{pulse_image}
+use Rattle.chip_function.specs.Ranges.{memory_in_range}
 use Rattle.chip_entries.specs.declared.event.Stage.TheVariants.{Memory}
-use Rattle.chip_entries.specs.Event.{chipInRange, imageAfter, pulseImageOf}
+use Rattle.chip_entries.specs.Event.{chip_in_range, image_after, pulse_image_of}
 use Rattle.chip_entries.specs.Run.{Chip, next}
 use Rattle.chip_entries.proofs.Kept.{next-is}
 use Rattle.chip_session_laws.specs.Session.{◌at◌}
-use Rattle.chip_session_laws.specs.Table.{addressEnd, place_of, bit, Gap, after-data, after-redirection, after-used, Writable, data-open, redirection-open}
+use Rattle.chip_session_laws.specs.Table.{address_end, place_of, bit, Gap, after-data, after-redirection, after-used, Writable, data-open, redirection-open}
 use Rattle.chip_session_laws.specs.Table.{data-field, redirection-field, used-field, Unwritable, data-closed, redirection-closed, in-gap, Anded, Rule}
-use Rattle.chip_session_laws.specs.Table.{armedWith, PulseLaws, ByteLaws}
+use Rattle.chip_session_laws.specs.Table.{armed_with, PulseLaws, ByteLaws}
 
 -- ---- which status addresses hold something
 
@@ -41,34 +41,34 @@ or-true true = refl
 or-true false = refl
 
 module _ (n : ℕ) where
-  within : (first size a : ℕ) → first ≤ a → a - first < size → isWithin first size a ≡ true
-  unfolding isWithin
+  within : (first size a : ℕ) → first ≤ a → a - first < size → is_within first size a ≡ true
+  unfolding is_within
   within first size a le lt = simp (le-ltb a first le, lt-ltb (a - first) size lt)
 
-  below : (first size a : ℕ) → a < first → isWithin first size a ≡ false
-  unfolding isWithin
+  below : (first size a : ℕ) → a < first → is_within first size a ≡ false
+  unfolding is_within
   below first size a lt = simp (lt-ltb a first lt)
 
-  above : (first size a : ℕ) → first ≤ a → size ≤ a - first → isWithin first size a ≡ false
-  unfolding isWithin
+  above : (first size a : ℕ) → first ≤ a → size ≤ a - first → is_within first size a ≡ false
+  unfolding is_within
   above first size a le ge = simp (le-ltb a first le, le-ltb (a - first) size ge)
 
   -- the three fields of bits ..
   pub data-held : (k : ℕ) → k < n / 8 → is_held n k ≡ true
-  unfolding is_held firstAddress
+  unfolding is_held first_address
   data-held k lt = simp (within 0x000 (n / 8) k (omega arith) (omega arith), or-true)
 
   pub redirection-held : (k : ℕ) → k < n / 8 → is_held n (0x020 + k) ≡ true
-  unfolding is_held firstAddress
+  unfolding is_held first_address
   redirection-held k lt = simp (within 0x020 (n / 8) (0x020 + k) (omega arith) (omega arith), or-true)
 
   pub used-held : (k : ℕ) → k < n / 8 → is_held n (0x040 + k) ≡ true
-  unfolding is_held firstAddress
+  unfolding is_held first_address
   used-held k lt = simp (within 0x040 (n / 8) (0x040 + k) (omega arith) (omega arith), or-true)
 
   -- .. and the gaps
   pub gap-unheld : {a : ℕ} → Gap n a → is_held n a ≡ false
-  unfolding is_held firstAddress
+  unfolding is_held first_address
   gap-unheld {a} (after-data le lt) =
       simp (below 0x100 n a (omega arith), above 0x000 (n / 8) a (omega arith) (omega arith), below 0x020 (n / 8) a (omega arith), below 0x040 (n / 8) a (omega arith))
   gap-unheld {a} (after-redirection le lt) =
@@ -106,7 +106,7 @@ module _ (n : ℕ) where
           ⊎_elim (λ h. inl (redirection-open {a = a} p (omega arith) (omega arith) h)) (λ h. inr (redirection-closed {a = a} p (omega arith) (omega arith) h))
           (parity (get_or img (32 * n + (0x020 + p / 8)) 0 / 2 ^ (p % 8)))
 
-  every : (img : List ℕ) (space : Space) (a : ℕ) → a < addressEnd n space → Writable n img space a ⊎ Unwritable n img space a
+  every : (img : List ℕ) (space : Space) (a : ℕ) → a < address_end n space → Writable n img space a ⊎ Unwritable n img space a
   every img DataSpace a lt = ⊎_elim (λ h. inl (data-open h)) (λ h. inr (data-closed h)) (parity (get_or img (32 * n + (0x000 + a / 32 / 8)) 0 / 2 ^ (a / 32 % 8)))
   every img StatusSpace a lt = status-row img a lt
 
@@ -126,7 +126,7 @@ module _ (n : ℕ) where
       closed-held (in-gap g) = inr g
 
   pub byte_laws : ByteLaws n
-  unfolding dataByte statusByte targetByte redirectionOf
+  unfolding data_byte status_byte target_byte redirection_of
   byte_laws =
       record {
         memory = λ img a lt. simp (lt-ltb a (32 * n) lt);
@@ -140,7 +140,7 @@ module _ (n : ℕ) where
   -- ---- what is programmed
 
   module _ (img : List ℕ) (t : Target) (byte : ℕ) where
-    anded : isWritable n img t ≡ true → index_of n t < length img → Anded img (programmed n img t byte) (index_of n t) byte
+    anded : is_writable n img t ≡ true → index_of n t < length img → Anded img (programmed n img t byte) (index_of n t) byte
     unfolding programmed
     anded w lt =
         let i = index_of n t in
@@ -152,105 +152,105 @@ module _ (n : ℕ) where
           as_long = length-set img i v;
         })
 
-    same : isWritable n img t ≡ false → programmed n img t byte ≡ img
+    same : is_writable n img t ≡ false → programmed n img t byte ≡ img
     unfolding programmed
     same w = simp w
 
     off-target : (j : ℕ) → (j ≡ index_of n t → ⊥) → get_or (programmed n img t byte) j 0 ≡ get_or img j 0
     unfolding programmed
-    off-target j ne = go (isWritable n img t)
+    off-target j ne = go (is_writable n img t)
       where
         go : (b : Bool) → get_or (cond b (set img (index_of n t) (bit_and (get_or img (index_of n t) 0) byte)) img) j 0 ≡ get_or img j 0
         go true = get_or-set_other img (index_of n t) j (bit_and (get_or img (index_of n t) 0) byte) 0 ne
         go false = refl
 
   -- the bit of a page
-  bit-one : (f : Field) (img : List ℕ) (p : ℕ) → p < n → bit img (32 * n + (firstAddress f + p / 8)) (p % 8) ≡ 1 → bit_of n f img p ≡ true
-  unfolding bit_of pageBit
+  bit-one : (f : Field) (img : List ℕ) (p : ℕ) → p < n → bit img (32 * n + (first_address f + p / 8)) (p % 8) ≡ 1 → bit_of n f img p ≡ true
+  unfolding bit_of page_bit
   bit-one f img p lt e = simp (lt-ltb p n lt, eq-eqb _ 1 e)
 
-  bit-zero : (f : Field) (img : List ℕ) (p : ℕ) → p < n → bit img (32 * n + (firstAddress f + p / 8)) (p % 8) ≡ 0 → bit_of n f img p ≡ false
-  unfolding bit_of pageBit
+  bit-zero : (f : Field) (img : List ℕ) (p : ℕ) → p < n → bit img (32 * n + (first_address f + p / 8)) (p % 8) ≡ 0 → bit_of n f img p ≡ false
+  unfolding bit_of page_bit
   bit-zero f img p lt e = simp (lt-ltb p n lt, e)
 
   module _ (img : List ℕ) (a : ℕ) where
-    low : a < 0x100 → isWritable n img (targetAt StatusSpace a) ≡ is_held n a
-    unfolding isWritable targetAt statusWritable
+    low : a < 0x100 → is_writable n img (target_at StatusSpace a) ≡ is_held n a
+    unfolding is_writable target_at status_writable
     low h = simp (lt-ltb a 0x100 h)
 
-    high : (p : ℕ) → a ≡ 0x100 + p → isWritable n img (targetAt StatusSpace a) ≡ bit_of n RedirectionProtection img p
-    unfolding isWritable targetAt statusWritable
+    high : (p : ℕ) → a ≡ 0x100 + p → is_writable n img (target_at StatusSpace a) ≡ bit_of n RedirectionProtection img p
+    unfolding is_writable target_at status_writable
     high p e =
         let le : 0x100 ≤ a = omega arith in
         let d : a - 0x100 ≡ p = omega arith in
         simp (le-ltb a 0x100 le, d)
 
   module _ (fits : n ≤ 256) where
-    opens : (img : List ℕ) {space : Space} {a : ℕ} → Writable n img space a → a < addressEnd n space → isWritable n img (targetAt space a) ≡ true
-    unfolding firstAddress
-    opens img (data-open {a = a} e) lt = unfold isWritable targetAt in bit-one DataProtection img (a / 32) (omega arith) e
+    opens : (img : List ℕ) {space : Space} {a : ℕ} → Writable n img space a → a < address_end n space → is_writable n img (target_at space a) ≡ true
+    unfolding first_address
+    opens img (data-open {a = a} e) lt = unfold is_writable target_at in bit-one DataProtection img (a / 32) (omega arith) e
     opens img (redirection-open {a = a} p lp e b) lt = high img a p e ∙ bit-one RedirectionProtection img p lp b
     opens img (data-field {a = a} h) lt = low img a (omega arith) ∙ data-held a h
     opens img (redirection-field {a = a} ge h) lt = low img a (omega arith) ∙ ap (is_held n) (omega arith) ∙ redirection-held (a - 0x020) (omega arith)
     opens img (used-field {a = a} ge h) lt = low img a (omega arith) ∙ ap (is_held n) (omega arith) ∙ used-held (a - 0x040) (omega arith)
 
-    closes : (img : List ℕ) {space : Space} {a : ℕ} → Unwritable n img space a → a < addressEnd n space → isWritable n img (targetAt space a) ≡ false
-    unfolding firstAddress
-    closes img (data-closed {a = a} e) lt = unfold isWritable targetAt in bit-zero DataProtection img (a / 32) (omega arith) e
+    closes : (img : List ℕ) {space : Space} {a : ℕ} → Unwritable n img space a → a < address_end n space → is_writable n img (target_at space a) ≡ false
+    unfolding first_address
+    closes img (data-closed {a = a} e) lt = unfold is_writable target_at in bit-zero DataProtection img (a / 32) (omega arith) e
     closes img (redirection-closed {a = a} p lp e b) lt = high img a p e ∙ bit-zero RedirectionProtection img p lp b
     closes img (in-gap {a = a} g) lt = low img a (gap-low g) ∙ gap-unheld g
 
-  pub place_is : (space : Space) (a : ℕ) → index_of n (targetAt space a) ≡ place_of n space a
-  unfolding index_of targetAt
+  pub place_is : (space : Space) (a : ℕ) → index_of n (target_at space a) ≡ place_of n space a
+  unfolding index_of target_at
   place_is DataSpace a = refl
   place_is StatusSpace a = refl
 
-  in_image : (space : Space) (a : ℕ) → a < addressEnd n space → place_of n space a < 32 * n + (0x100 + n)
+  in_image : (space : Space) (a : ℕ) → a < address_end n space → place_of n space a < 32 * n + (0x100 + n)
   in_image DataSpace a lt = omega arith
   in_image StatusSpace a lt = omega arith
 
   -- a byte for an address goes by the rows, and alters nothing else
-  pub rule : n ≤ 256 → (img : List ℕ) (space : Space) (a byte : ℕ) → length img ≡ 32 * n + (0x100 + n) → a < addressEnd n space
-      → Rule n space img (programmed n img (targetAt space a) byte) a byte
+  pub rule : n ≤ 256 → (img : List ℕ) (space : Space) (a byte : ℕ) → length img ≡ 32 * n + (0x100 + n) → a < address_end n space
+      → Rule n space img (programmed n img (target_at space a) byte) a byte
   rule fits img space a byte l lt =
       record {
         written = λ w.
             rw (place_is space a) at
-            (anded img (targetAt space a) byte (opens fits img w lt) (rw (place_is space a, l) (in_image space a lt)));
-        left = λ u. same img (targetAt space a) byte (closes fits img u lt);
+            (anded img (target_at space a) byte (opens fits img w lt) (rw (place_is space a, l) (in_image space a lt)));
+        left = λ u. same img (target_at space a) byte (closes fits img u lt);
       }
 
-  pub elsewhere-one : (space : Space) (img : List ℕ) (a byte j : ℕ) → (j ≡ place_of n space a → ⊥) → get_or (programmed n img (targetAt space a) byte) j 0 ≡ get_or img j 0
-  elsewhere-one space img a byte j ne = off-target img (targetAt space a) byte j (λ e. ne (e ∙ place_is space a))
+  pub elsewhere-one : (space : Space) (img : List ℕ) (a byte j : ℕ) → (j ≡ place_of n space a → ⊥) → get_or (programmed n img (target_at space a) byte) j 0 ≡ get_or img j 0
+  elsewhere-one space img a byte j ne = off-target img (target_at space a) byte j (λ e. ne (e ∙ place_is space a))
 
   -- ---- a pulse
 
-  pub limit_is : (space : Space) → limitOf n space ≡ addressEnd n space
-  unfolding limitOf
+  pub limit_is : (space : Space) → limit_of n space ≡ address_end n space
+  unfolding limit_of
   limit_is DataSpace = refl
   limit_is StatusSpace = refl
 
-  target-in : (space : Space) (a : ℕ) → a < addressEnd n space → targetInRange n (targetAt space a) ≡ true
-  unfolding targetInRange targetAt isAddress limitOf
+  target-in : (space : Space) (a : ℕ) → a < address_end n space → target_in_range n (target_at space a) ≡ true
+  unfolding target_in_range target_at is_address limit_of
   target-in DataSpace a lt = lt-ltb a (32 * n) lt
   target-in StatusSpace a lt = lt-ltb a (0x100 + n) lt
 
-  armed-is : (c : Chip) (mode : WriteMode) (space : Space) (a byte : ℕ) → armedWith c mode space a byte ≡ c at Memory (Armed mode (targetAt space a) byte)
-  unfolding targetAt
+  armed-is : (c : Chip) (mode : WriteMode) (space : Space) (a byte : ℕ) → armed_with c mode space a byte ≡ c at Memory (Armed mode (target_at space a) byte)
+  unfolding target_at
   armed-is c mode DataSpace a byte = refl
   armed-is c mode StatusSpace a byte = refl
 
   -- on an armed chip within its ranges
-  pulsed : (c : Chip) (mode : WriteMode) (t : Target) (byte : ℕ) → length c.image ≡ imageSize n → targetInRange n t ≡ true
+  pulsed : (c : Chip) (mode : WriteMode) (t : Target) (byte : ℕ) → length c.image ≡ image_size n → target_in_range n t ≡ true
       → (next n (c at Memory (Armed mode t byte)) pulse).image ≡ programmed n c.image t byte
-  unfolding isImage chipInRange memoryInRange imageAfter pulseImageOf pulseImage
+  unfolding is_image chip_in_range memory_in_range image_after pulse_image_of pulse_image
   pulsed c mode t byte l r =
-      ap (λ (d : Chip). d.image) (next-is n (c at Memory (Armed mode t byte)) (eq-eqb (length c.image) (imageSize n) l) r pulse)
+      ap (λ (d : Chip). d.image) (next-is n (c at Memory (Armed mode t byte)) (eq-eqb (length c.image) (image_size n) l) r pulse)
 
   pub pulse-laws : n ≤ 256 → PulseLaws n
   pulse-laws fits =
       record {
         every = every;
         pulse = λ c mode space a byte l lt.
-            rw (armed-is c mode space a byte, pulsed c mode (targetAt space a) byte l (target-in space a lt)) (rule fits c.image space a byte l lt);
+            rw (armed-is c mode space a byte, pulsed c mode (target_at space a) byte l (target-in space a lt)) (rule fits c.image space a byte l lt);
       }

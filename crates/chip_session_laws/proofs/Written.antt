@@ -7,37 +7,37 @@ use native.Mathlib.Nat.{add-zero}
 use native.Mathlib.Omega.{arith}
 use lib.Bits.{bit_and}
 use lib.ListN.{length, get_or}
-use Rattle.base_types.specs.Bits.{bitsOfBytes}
+use Rattle.base_types.specs.Bits.{bits_of_bytes}
 use Rattle.base_types.specs.declared.address.Space.{Space}
 use Rattle.base_types.specs.declared.address.Space.TheVariants.{Data, Status}
 use Rattle.base_types.specs.declared.write_mode.WriteMode.{WriteMode}
 use Rattle.base_types.specs.declared.write_mode.WriteMode.TheVariants.{Ordinary, Quick}
-use Rattle.base_types.specs.WriteMode.{writeCommand}
-use Rattle.base_crc.specs.Crc.{crc16Of}
+use Rattle.base_types.specs.WriteMode.{write_command}
+use Rattle.base_crc.specs.Crc.{crc16_of}
 use Rattle.chip_memory.specs.Write.{programmed}
 use Rattle.chip_memory.proofs.Gaps.{programmed-length}
-use Rattle.chip_stage.specs.Limits.{limitOf, targetAt}
+use Rattle.chip_stage.specs.Limits.{limit_of, target_at}
 use Rattle.chip_stage.proofs.Addresses.{limit-fits}
 use Rattle.chip_function_laws.specs.Streams.{header}
-use Rattle.chip_function_laws.specs.Writes.{writtenFrom}
+use Rattle.chip_function_laws.specs.Writes.{written_from}
 use Rattle.chip_function_laws.proofs.Addresses.{address-laws}
 use Rattle.chip_entries.specs.Run.{Chip, run}
-use Rattle.chip_session_laws.specs.Session.{Ready, ◌at◌, ◌holding◌, Reaches, Selection, WriteCycle, cycleBytes, cycleLines, byte_of, beforeByte}
-use Rattle.chip_session_laws.specs.Table.{addressEnd, place_of, Writable, data-open, redirection-open, data-field, redirection-field, used-field}
+use Rattle.chip_session_laws.specs.Session.{Ready, ◌at◌, ◌holding◌, Reaches, Selection, WriteCycle, cycle_bytes, cycle_lines, byte_of, before_byte}
+use Rattle.chip_session_laws.specs.Table.{address_end, place_of, Writable, data-open, redirection-open, data-field, redirection-field, used-field}
 use Rattle.chip_session_laws.specs.Table.{Unwritable, data-closed, redirection-closed, in-gap}
 use Rattle.chip_session_laws.specs.Written.{Written, session, Writes, WrittenLaws}
 use Rattle.chip_session_laws.proofs.Places.{elsewhere, written-length, later-kept, one_place}
 use Rattle.chip_session_laws.proofs.Table.{rule, elsewhere-one, limit_is}
 use Rattle.chip_session_laws.proofs.Writes.{cycles-written}
 
-cycles-length : {mode : WriteMode} (cycles : List (WriteCycle mode)) → length (cycleBytes cycles) ≡ length cycles
+cycles-length : {mode : WriteMode} (cycles : List (WriteCycle mode)) → length (cycle_bytes cycles) ≡ length cycles
 cycles-length [] = refl
 cycles-length (t ∷ ts) = ap suc (cycles-length ts)
 
 module _ (n : ℕ) where
   -- ---- the bits that guard an address are not written from there on
 
-  open-before : (bytes img : List ℕ) {space : Space} {a : ℕ} → a + length bytes ≤ addressEnd n space → Writable n (writtenFrom n img space a bytes) space a → Writable n img space a
+  open-before : (bytes img : List ℕ) {space : Space} {a : ℕ} → a + length bytes ≤ address_end n space → Writable n (written_from n img space a bytes) space a → Writable n img space a
   open-before bytes img le (data-open {a = a} e) = data-open (rw (elsewhere n Data bytes img a (32 * n + (0x000 + a / 32 / 8)) (λ i lt z. omega arith)) at e)
   open-before bytes img le (redirection-open {a = a} p lp z e) =
       redirection-open p lp z (rw (elsewhere n Status bytes img a (32 * n + (0x020 + p / 8)) (λ i lt y. omega arith)) at e)
@@ -45,7 +45,7 @@ module _ (n : ℕ) where
   open-before bytes img le (redirection-field ge h) = redirection-field ge h
   open-before bytes img le (used-field ge h) = used-field ge h
 
-  closed-before : (bytes img : List ℕ) {space : Space} {a : ℕ} → a + length bytes ≤ addressEnd n space → Unwritable n (writtenFrom n img space a bytes) space a → Unwritable n img space a
+  closed-before : (bytes img : List ℕ) {space : Space} {a : ℕ} → a + length bytes ≤ address_end n space → Unwritable n (written_from n img space a bytes) space a → Unwritable n img space a
   closed-before bytes img le (data-closed {a = a} e) = data-closed (rw (elsewhere n Data bytes img a (32 * n + (0x000 + a / 32 / 8)) (λ i lt z. omega arith)) at e)
   closed-before bytes img le (redirection-closed {a = a} p lp z e) =
       redirection-closed p lp z (rw (elsewhere n Status bytes img a (32 * n + (0x020 + p / 8)) (λ i lt y. omega arith)) at e)
@@ -63,12 +63,12 @@ module _ (n : ℕ) where
         (Writable n new space (a + i) → get_or new (there (a + i)) 0 ≡ bit_and (get_or img (there (a + i)) 0) (get_or bytes i 0))
         × (Unwritable n new space (a + i) → get_or new (there (a + i)) 0 ≡ get_or img (there (a + i)) 0)
 
-    each : (bytes img : List ℕ) (a : ℕ) → length img ≡ 32 * n + (0x100 + n) → a + length bytes ≤ addressEnd n space
-        → (i : ℕ) → i < length bytes → Byte img (writtenFrom n img space a bytes) bytes a i
-    unfolding writtenFrom
+    each : (bytes img : List ℕ) (a : ℕ) → length img ≡ 32 * n + (0x100 + n) → a + length bytes ≤ address_end n space
+        → (i : ℕ) → i < length bytes → Byte img (written_from n img space a bytes) bytes a i
+    unfolding written_from
     each [] img a l le i lt = absurd (omega arith)
     each (b ∷ bs) img a l le zero lt =
-        let mid = programmed n img (targetAt space a) b in
+        let mid = programmed n img (target_at space a) b in
         let own = rule n fits img space a b l (omega arith) in
         let kept = later-kept n space bs mid a in
         rw (add-zero a) (
@@ -77,12 +77,12 @@ module _ (n : ℕ) where
         )
     each (b ∷ bs) img a l le (suc i) lt =
         let up : a + suc i ≡ a + 1 + i = omega arith in
-        let later = each bs (programmed n img (targetAt space a) b) (a + 1) (programmed-length n img (targetAt space a) b ∙ l) (omega arith) i (omega arith) in
+        let later = each bs (programmed n img (target_at space a) b) (a + 1) (programmed-length n img (target_at space a) b ∙ l) (omega arith) i (omega arith) in
         let kept = elsewhere-one n space img a b (there (a + 1 + i)) (λ e. let same = one_place n space (a + 1 + i) a e in omega arith) in
         rw up ((λ w. later.0 w ∙ ap (λ x. bit_and x (get_or bs i 0)) kept), (λ u. later.1 u ∙ kept))
 
-    is-image : (bytes img : List ℕ) (a : ℕ) → length img ≡ 32 * n + (0x100 + n) → a + length bytes ≤ addressEnd n space
-        → Written n space img (writtenFrom n img space a bytes) a bytes
+    is-image : (bytes img : List ℕ) (a : ℕ) → length img ≡ 32 * n + (0x100 + n) → a + length bytes ≤ address_end n space
+        → Written n space img (written_from n img space a bytes) a bytes
     is-image bytes img a l le =
         record {
           written = λ i lt. (each bytes img a l le i lt).0;
@@ -95,27 +95,27 @@ module _ (n : ℕ) where
 
   module _ (whole : n % 8 ≡ 0) (fits : n ≤ 256) (mode : WriteMode) (space : Space) where
     module _ (c : Chip) {ms ls : List Bool} (a : ℕ) (cycles : List (WriteCycle mode)) (ok : Ready n c) (sel : Selection c.state.number ms ls)
-        (some : 0 < length cycles) (le : a + length cycles ≤ addressEnd n space) where
-      room : a + length cycles ≤ limitOf n space
+        (some : 0 < length cycles) (le : a + length cycles ≤ address_end n space) where
+      room : a + length cycles ≤ limit_of n space
       room = rw (limit_is n space) le
 
-      goes : Reaches n c (session ms (writeCommand mode space) a cycles)
-          (false ∷ ((ls ++ bitsOfBytes (header (writeCommand mode space) a))
-          ++ cycleLines (byte_of n (writtenFrom n c.image space a (cycleBytes cycles)) space) a (crc16Of (header (writeCommand mode space) a)) cycles))
-          ((c at beforeByte n mode space (a + length cycles)) holding writtenFrom n c.image space a (cycleBytes cycles))
+      goes : Reaches n c (session ms (write_command mode space) a cycles)
+          (false ∷ ((ls ++ bits_of_bytes (header (write_command mode space) a))
+          ++ cycle_lines (byte_of n (written_from n c.image space a (cycle_bytes cycles)) space) a (crc16_of (header (write_command mode space) a)) cycles))
+          ((c at before_byte n mode space (a + length cycles)) holding written_from n c.image space a (cycle_bytes cycles))
       goes =
           let own = (address-laws n fits).own space a (omega (arith, room)) in
           rw own at (cycles-written n whole c mode space a cycles ok sel (omega (arith, limit-fits n space fits, room)) (rw own room) some)
 
-      leaves : (run n c (session ms (writeCommand mode space) a cycles)).image ≡ writtenFrom n c.image space a (cycleBytes cycles)
+      leaves : (run n c (session ms (write_command mode space) a cycles)).image ≡ written_from n c.image space a (cycle_bytes cycles)
       leaves = ap (λ (d : Chip). d.image) goes.there
 
-    writes : Writes n mode space (writeCommand mode space)
+    writes : Writes n mode space (write_command mode space)
     writes =
         record {
           image = λ c {ms} {ls} a cycles ok sel some le.
               rw (leaves c a cycles ok sel some le)
-              (is-image fits space (cycleBytes cycles) c.image a ok.sized (rw (cycles-length cycles) le));
+              (is-image fits space (cycle_bytes cycles) c.image a ok.sized (rw (cycles-length cycles) le));
           told = λ c {ms} {ls} a cycles ok sel some le. rw (leaves c a cycles ok sel some le) (goes c a cycles ok sel some le).told;
         }
 

@@ -9,7 +9,7 @@ use Rattle.base_types.specs.declared.address.Target.TheVariants.{Data as DataTar
 use Rattle.base_types.specs.declared.write_mode.WriteMode.{WriteMode}
 use Rattle.bus_events.specs.declared.Event.{Event}
 use Rattle.bus_events.specs.Events.{pulse}
-use Rattle.chip_memory.specs.Image.{dataByte, statusByte, targetByte, redirectionOf}
+use Rattle.chip_memory.specs.Image.{data_byte, status_byte, target_byte, redirection_of}
 use Rattle.chip_stage.specs.declared.stage.MemoryStage.TheVariants.{Armed}
 use Rattle.chip_entries.specs.declared.event.Stage.TheVariants.{Memory}
 use Rattle.chip_entries.specs.declared.event.State.{State}
@@ -19,9 +19,9 @@ use Rattle.chip_session_laws.specs.Session.{◌at◌}
 -- ---- addresses, bytes and bits of an image
 
 -- the addresses of a memory end before this one
-abbrev pub addressEnd : ℕ → Space → ℕ
-addressEnd n Data = 32 * n
-addressEnd n Status = 0x100 + n
+abbrev pub address_end : ℕ → Space → ℕ
+address_end n Data = 32 * n
+address_end n Status = 0x100 + n
 
 -- where the byte of an address stands in the image
 abbrev pub place_of : ℕ → Space → ℕ → ℕ
@@ -68,28 +68,28 @@ pub record Rule (n : ℕ) (space : Space) (old new : List ℕ) (a byte : ℕ) : 
   pub written : Writable n old space a → Anded old new (place_of n space a) byte
   pub left : Unwritable n old space a → new ≡ old
 
-abbrev pub armedWith : Chip → WriteMode → Space → ℕ → ℕ → Chip
-armedWith c mode Data a byte = c at Memory (Armed mode (DataTarget (record { 0 = a })) byte)
-armedWith c mode Status a byte = c at Memory (Armed mode (StatusTarget (record { 0 = a })) byte)
+abbrev pub armed_with : Chip → WriteMode → Space → ℕ → ℕ → Chip
+armed_with c mode Data a byte = c at Memory (Armed mode (DataTarget (record { 0 = a })) byte)
+armed_with c mode Status a byte = c at Memory (Armed mode (StatusTarget (record { 0 = a })) byte)
 
 pub record PulseLaws (n : ℕ) : Type 0 where
   -- every address is in a row
-  pub every : (img : List ℕ) (space : Space) (a : ℕ) → a < addressEnd n space → Writable n img space a ⊎ Unwritable n img space a
+  pub every : (img : List ℕ) (space : Space) (a : ℕ) → a < address_end n space → Writable n img space a ⊎ Unwritable n img space a
   -- a pulse on an armed chip, of whatever number, goes by the rows
-  pub pulse : (c : Chip) (mode : WriteMode) (space : Space) (a byte : ℕ) → length c.image ≡ 32 * n + (0x100 + n) → a < addressEnd n space
-      → Rule n space c.image (next n (armedWith c mode space a byte) pulse).image a byte
+  pub pulse : (c : Chip) (mode : WriteMode) (space : Space) (a byte : ℕ) → length c.image ≡ 32 * n + (0x100 + n) → a < address_end n space
+      → Rule n space c.image (next n (armed_with c mode space a byte) pulse).image a byte
 
 -- ---- what is read
 
 -- the bytes of which the laws of the commands that read and of those that write speak, by their places; a gap reads FFh
 pub record ByteLaws (n : ℕ) : Type 0 where
-  pub memory : (img : List ℕ) (a : ℕ) → a < 32 * n → dataByte n img a ≡ get_or img a 0
-  pub status : (img : List ℕ) (a : ℕ) → a < 0x100 + n → (Gap n a → ⊥) → statusByte n img a ≡ get_or img (32 * n + a) 0
-  pub gap : (img : List ℕ) (a : ℕ) → Gap n a → statusByte n img a ≡ 0xFF
-  pub redirection : (img : List ℕ) (p : ℕ) → redirectionOf n img p ≡ get_or img (32 * n + (0x100 + p)) 0
+  pub memory : (img : List ℕ) (a : ℕ) → a < 32 * n → data_byte n img a ≡ get_or img a 0
+  pub status : (img : List ℕ) (a : ℕ) → a < 0x100 + n → (Gap n a → ⊥) → status_byte n img a ≡ get_or img (32 * n + a) 0
+  pub gap : (img : List ℕ) (a : ℕ) → Gap n a → status_byte n img a ≡ 0xFF
+  pub redirection : (img : List ℕ) (p : ℕ) → redirection_of n img p ≡ get_or img (32 * n + (0x100 + p)) 0
   -- what is read back of a write is the byte of the address that it went to
-  pub target-data : (img : List ℕ) (a : ℕ) → targetByte n img (DataTarget (record { 0 = a })) ≡ dataByte n img a
-  pub target-status : (img : List ℕ) (a : ℕ) → targetByte n img (StatusTarget (record { 0 = a })) ≡ statusByte n img a
+  pub target-data : (img : List ℕ) (a : ℕ) → target_byte n img (DataTarget (record { 0 = a })) ≡ data_byte n img a
+  pub target-status : (img : List ℕ) (a : ℕ) → target_byte n img (StatusTarget (record { 0 = a })) ≡ status_byte n img a
 
 -- ---- the gaps are neither read nor altered
 

@@ -2,7 +2,7 @@
 -- and what the events draw, whatever the master's bits in the slots in which the chip sends. No stage of the chip is named.
 use Rattle.std.specs.Prelude.{ℕ, ◌+◌, ◌<◌, ◌≤◌, ◌≡◌, Bool, false, List, ◌∷◌, ◌++◌, map, length, get_or}
 use Rattle.std.specs.Int.Bits.{bit_and}
-use Rattle.base_types.specs.Bits.{bitsOfBytes}
+use Rattle.base_types.specs.Bits.{bits_of_bytes}
 use Rattle.base_types.specs.Outcome.{accepted}
 use Rattle.base_types.specs.declared.address.Space.{Space}
 use Rattle.base_types.specs.declared.address.Space.TheVariants.{Data, Status}
@@ -11,11 +11,11 @@ use Rattle.base_types.specs.declared.write_mode.WriteMode.TheVariants.{Ordinary,
 use Rattle.bus_events.specs.declared.Event.{Event}
 use Rattle.bus_events.specs.Slots.{slots}
 use Rattle.bus_events.specs.Events.{reset}
-use Rattle.base_crc.specs.Crc.{crc16Of}
+use Rattle.base_crc.specs.Crc.{crc16_of}
 use Rattle.chip_function_laws.specs.Streams.{header}
 use Rattle.chip_entries.specs.Run.{Chip, run, answers}
-use Rattle.chip_session_laws.specs.Session.{Ready, Selection, WriteCycle, cycleEvents, cycleBytes, cycleLines, byte_of}
-use Rattle.chip_session_laws.specs.Table.{addressEnd, place_of, Writable, Unwritable}
+use Rattle.chip_session_laws.specs.Session.{Ready, Selection, WriteCycle, cycle_events, cycle_bytes, cycle_lines, byte_of}
+use Rattle.chip_session_laws.specs.Table.{address_end, place_of, Writable, Unwritable}
 
 -- The image after bytes were sent to the addresses from a on. The byte that guards another has a lower address, or is of the other memory, so
 -- that it is written before or not at all: the rows are those of the image afterwards.
@@ -28,20 +28,20 @@ pub record Written (n : ℕ) (space : Space) (old new : List ℕ) (a : ℕ) (byt
 
 -- reset, the ROM command's bits, the command with its address, and for each byte its write cycle
 abbrev pub session : {mode : WriteMode} → List Bool → ℕ → ℕ → List (WriteCycle mode) → List Event
-session ms command a cycles = reset ∷ (slots (ms ++ bitsOfBytes (header command a)) ++ cycleEvents cycles)
+session ms command a cycles = reset ∷ (slots (ms ++ bits_of_bytes (header command a)) ++ cycle_events cycles)
 
 -- from any start address, any bytes that the memory has room for
 pub record Writes (n : ℕ) (mode : WriteMode) (space : Space) (command : ℕ) : Type 0 where
   pub image : (c : Chip) {ms ls : List Bool} (a : ℕ) (cycles : List (WriteCycle mode)) → Ready n c → Selection c.state.number ms ls
-      → 0 < length cycles → a + length cycles ≤ addressEnd n space
-      → Written n space c.image (run n c (session ms command a cycles)).image a (cycleBytes cycles)
+      → 0 < length cycles → a + length cycles ≤ address_end n space
+      → Written n space c.image (run n c (session ms command a cycles)).image a (cycle_bytes cycles)
   -- Presence, the ROM command's line, the command and the address as sent, and what the cycles draw. The first CRC is of command, address and
   -- byte. What is read back stands in the image afterwards, as no address is written twice.
   pub told : (c : Chip) {ms ls : List Bool} (a : ℕ) (cycles : List (WriteCycle mode)) → Ready n c → Selection c.state.number ms ls
-      → 0 < length cycles → a + length cycles ≤ addressEnd n space
+      → 0 < length cycles → a + length cycles ≤ address_end n space
       → let new = (run n c (session ms command a cycles)).image in
       answers n c (session ms command a cycles)
-      ≡ map accepted (false ∷ ((ls ++ bitsOfBytes (header command a)) ++ cycleLines (byte_of n new space) a (crc16Of (header command a)) cycles))
+      ≡ map accepted (false ∷ ((ls ++ bits_of_bytes (header command a)) ++ cycle_lines (byte_of n new space) a (crc16_of (header command a)) cycles))
 
 pub record WrittenLaws (n : ℕ) : Type 0 where
   pub memory : Writes n Ordinary Data 0x0F

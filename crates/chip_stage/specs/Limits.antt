@@ -4,32 +4,32 @@ use Rattle.base_types.specs.declared.address.Space.{Space}
 use Rattle.base_types.specs.declared.address.Space.TheVariants.{Data, Status}
 use Rattle.base_types.specs.declared.address.Target.{Target}
 use Rattle.base_types.specs.declared.address.Target.TheVariants.{Data as DataTarget, Status as StatusTarget}
-use Rattle.chip_memory.specs.Layout.{dataSize, statusSize}
+use Rattle.chip_memory.specs.Layout.{data_size, status_size}
 
 -- how many addresses a memory has: 0800h and 140h for the DS2505
-unfoldable pub limitOf : ℕ → Space → ℕ
-limitOf n Data = dataSize n
-limitOf n Status = statusSize n
+unfoldable pub limit_of : ℕ → Space → ℕ
+limit_of n Data = data_size n
+limit_of n Status = status_size n
 
-unfoldable pub isAddress : ℕ → Space → ℕ → Bool
-isAddress n space a = ltb a (limitOf n space)
+unfoldable pub is_address : ℕ → Space → ℕ → Bool
+is_address n space a = ltb a (limit_of n space)
 
 -- ---- start addresses
 
 -- how many bits of a start address the chip keeps: 11 for the DS2505, 13 for the DS2506
-unfoldable pub addressBits : ℕ → ℕ
-addressBits n = cond (ltb 64 n) 13 11
+unfoldable pub address_bits : ℕ → ℕ
+address_bits n = cond (ltb 64 n) 13 11
 
 -- a start address as the chip keeps it: the bits above these are set to 0
-unfoldable pub keptAddress : ℕ → ℕ → ℕ
-keptAddress n a = a % 2 ^ addressBits n
+unfoldable pub kept_address : ℕ → ℕ → ℕ
+kept_address n a = a % 2 ^ address_bits n
 
 -- ---- targets
 
-unfoldable pub targetAt : Space → ℕ → Target
-targetAt Data a = DataTarget (record { 0 = a })
-targetAt Status a = StatusTarget (record { 0 = a })
+unfoldable pub target_at : Space → ℕ → Target
+target_at Data a = DataTarget (record { 0 = a })
+target_at Status a = StatusTarget (record { 0 = a })
 
-unfoldable pub targetInRange : ℕ → Target → Bool
-targetInRange n (DataTarget a) = isAddress n Data a.0
-targetInRange n (StatusTarget a) = isAddress n Status a.0
+unfoldable pub target_in_range : ℕ → Target → Bool
+target_in_range n (DataTarget a) = is_address n Data a.0
+target_in_range n (StatusTarget a) = is_address n Status a.0

@@ -1,7 +1,7 @@
 // The three commands that read.
 ghost use Rattle.std.specs.Prelude.{◌≡◌};
-ghost use Rattle.chip_memory.specs.Layout.{pageCount};
-ghost use Rattle.chip_stage.specs.Reads.{memoryFrom, statusFrom, redirectionFrom, pageFrom, startMemory, startStatus, startExtended, afterMemory, afterStatus, nextStatus, afterPage, nextPage};
+ghost use Rattle.chip_memory.specs.Layout.{page_count};
+ghost use Rattle.chip_stage.specs.Reads.{memory_from, status_from, redirection_from, page_from, start_memory, start_status, start_extended, after_memory, after_status, next_status, after_page, next_page};
 
 use crate::stage::{MemoryStage, Outgoing};
 use crate::{limits, stage};
@@ -11,7 +11,7 @@ use chip_memory::{image, layout};
 // ---- the next byte to send
 
 pub fn memory_from(last: Page, a: DataAddress, crc: u16, image: &[u8]) -> MemoryStage
-    ensures { result ≡ memoryFrom (pageCount last) a crc image.now }
+    ensures { result ≡ memory_from (page_count last) a crc image.now }
 {
     stage::send_byte(
         Outgoing::MemoryData(a),
@@ -21,7 +21,7 @@ pub fn memory_from(last: Page, a: DataAddress, crc: u16, image: &[u8]) -> Memory
 }
 
 pub fn status_from(last: Page, a: StatusAddress, crc: u16, image: &[u8]) -> MemoryStage
-    ensures { result ≡ statusFrom (pageCount last) a crc image.now }
+    ensures { result ≡ status_from (page_count last) a crc image.now }
 {
     stage::send_byte(
         Outgoing::StatusData(a),
@@ -32,7 +32,7 @@ pub fn status_from(last: Page, a: StatusAddress, crc: u16, image: &[u8]) -> Memo
 
 // The redirection byte of the page that an address lies in.
 pub fn redirection_from(last: Page, a: DataAddress, crc: u16, image: &[u8]) -> MemoryStage
-    ensures { result ≡ redirectionFrom (pageCount last) a crc image.now }
+    ensures { result ≡ redirection_from (page_count last) a crc image.now }
 {
     let p = Page(((a.0 >> 5) & 0xFF) as u8);
     let b = image::redirection_of(image, last, p);
@@ -40,7 +40,7 @@ pub fn redirection_from(last: Page, a: DataAddress, crc: u16, image: &[u8]) -> M
 }
 
 pub fn page_from(last: Page, a: DataAddress, crc: u16, image: &[u8]) -> MemoryStage
-    ensures { result ≡ pageFrom (pageCount last) a crc image.now }
+    ensures { result ≡ page_from (page_count last) a crc image.now }
 {
     stage::send_byte(Outgoing::PageData(a), image::data_byte(image, last, a), crc)
 }
@@ -48,7 +48,7 @@ pub fn page_from(last: Page, a: DataAddress, crc: u16, image: &[u8]) -> MemorySt
 // ---- an address is in
 
 pub fn start_memory(last: Page, a: u16, crc: u16, image: &[u8]) -> MemoryStage
-    ensures { result ≡ startMemory (pageCount last) a crc image.now }
+    ensures { result ≡ start_memory (page_count last) a crc image.now }
 {
     if limits::is_address(last, Space::Data, a) {
         memory_from(last, DataAddress(a), crc, image)
@@ -58,7 +58,7 @@ pub fn start_memory(last: Page, a: u16, crc: u16, image: &[u8]) -> MemoryStage
 }
 
 pub fn start_status(last: Page, a: u16, crc: u16, image: &[u8]) -> MemoryStage
-    ensures { result ≡ startStatus (pageCount last) a crc image.now }
+    ensures { result ≡ start_status (page_count last) a crc image.now }
 {
     if limits::is_address(last, Space::Status, a) {
         status_from(last, StatusAddress(a), crc, image)
@@ -68,7 +68,7 @@ pub fn start_status(last: Page, a: u16, crc: u16, image: &[u8]) -> MemoryStage
 }
 
 pub fn start_extended(last: Page, a: u16, crc: u16, image: &[u8]) -> MemoryStage
-    ensures { result ≡ startExtended (pageCount last) a crc image.now }
+    ensures { result ≡ start_extended (page_count last) a crc image.now }
 {
     if limits::is_address(last, Space::Data, a) {
         redirection_from(last, DataAddress(a), crc, image)
@@ -80,7 +80,7 @@ pub fn start_extended(last: Page, a: u16, crc: u16, image: &[u8]) -> MemoryStage
 // ---- a byte or a CRC has gone out
 
 pub fn after_memory(last: Page, a: DataAddress, crc: u16, image: &[u8]) -> MemoryStage
-    ensures { result ≡ afterMemory (pageCount last) a crc image.now }
+    ensures { result ≡ after_memory (page_count last) a crc image.now }
 {
     let x = a.0;
     if (x as usize) + 1 < layout::data_size(last) {
@@ -91,7 +91,7 @@ pub fn after_memory(last: Page, a: DataAddress, crc: u16, image: &[u8]) -> Memor
 }
 
 pub fn after_status(last: Page, a: StatusAddress, crc: u16, image: &[u8]) -> MemoryStage
-    ensures { result ≡ afterStatus (pageCount last) a crc image.now }
+    ensures { result ≡ after_status (page_count last) a crc image.now }
 {
     let x = a.0;
     if x % 8 < 7 {
@@ -102,7 +102,7 @@ pub fn after_status(last: Page, a: StatusAddress, crc: u16, image: &[u8]) -> Mem
 }
 
 pub fn next_status(last: Page, a: StatusAddress, image: &[u8]) -> MemoryStage
-    ensures { result ≡ nextStatus (pageCount last) a image.now }
+    ensures { result ≡ next_status (page_count last) a image.now }
 {
     let x = a.0;
     if (x as usize) + 1 < layout::status_size(last) as usize {
@@ -113,7 +113,7 @@ pub fn next_status(last: Page, a: StatusAddress, image: &[u8]) -> MemoryStage
 }
 
 pub fn after_page(last: Page, a: DataAddress, crc: u16, image: &[u8]) -> MemoryStage
-    ensures { result ≡ afterPage (pageCount last) a crc image.now }
+    ensures { result ≡ after_page (page_count last) a crc image.now }
 {
     let x = a.0;
     if x % 32 < 31 {
@@ -124,7 +124,7 @@ pub fn after_page(last: Page, a: DataAddress, crc: u16, image: &[u8]) -> MemoryS
 }
 
 pub fn next_page(last: Page, a: DataAddress, image: &[u8]) -> MemoryStage
-    ensures { result ≡ nextPage (pageCount last) a image.now }
+    ensures { result ≡ next_page (page_count last) a image.now }
 {
     let x = a.0;
     if (x as usize) + 1 < layout::data_size(last) {

@@ -1,6 +1,6 @@
 // The stages of the memory functions.
 ghost use Rattle.std.specs.Prelude.{◌≡◌};
-ghost use Rattle.chip_stage.specs.Stages.{receiving, sendingByte, sendingCrc};
+ghost use Rattle.chip_stage.specs.Stages.{receiving, sending_byte, sending_crc};
 
 use base_types::address::{DataAddress, Space, StatusAddress, Target};
 use base_types::write_mode::WriteMode;
@@ -58,14 +58,14 @@ pub fn receive(i: Incoming, crc: u16) -> MemoryStage
 
 // Before the first bit of a byte that goes out, which the CRC takes in.
 pub fn send_byte(o: Outgoing, v: u8, crc: u16) -> MemoryStage
-    ensures { result ≡ sendingByte o v crc }
+    ensures { result ≡ sending_byte o v crc }
 {
     MemoryStage::Send(o, 8, v as u16, base_crc::crc16::byte(crc, v))
 }
 
 // Before the first bit of a CRC.
 pub fn send_crc(o: Outgoing, crc: u16) -> MemoryStage
-    ensures { result ≡ sendingCrc o crc }
+    ensures { result ≡ sending_crc o crc }
 {
     MemoryStage::Send(o, 16, base_crc::crc16::word(crc), crc)
 }

@@ -1,8 +1,8 @@
 // The commands that write.
 ghost use Rattle.std.specs.Prelude.{◌≡◌};
-ghost use Rattle.chip_memory.specs.Layout.{pageCount};
+ghost use Rattle.chip_memory.specs.Layout.{page_count};
 ghost use Rattle.chip_memory.specs.Write.{programmed};
-ghost use Rattle.chip_stage.specs.Writes.{startWrite, dataIn, raised, nextWrite, readingBack};
+ghost use Rattle.chip_stage.specs.Writes.{start_write, data_in, raised, next_write, reading_back};
 
 use crate::stage::{Incoming, MemoryStage, Outgoing};
 use crate::{limits, stage};
@@ -12,7 +12,7 @@ use chip_memory::image;
 
 // An address is in.
 pub fn start_write(last: Page, mode: WriteMode, space: Space, a: u16, crc: u16) -> MemoryStage
-    ensures { result ≡ startWrite (pageCount last) mode space a crc }
+    ensures { result ≡ start_write (page_count last) mode space a crc }
 {
     if limits::is_address(last, space, a) {
         stage::receive(Incoming::Data(mode, limits::target(space, a)), crc)
@@ -23,7 +23,7 @@ pub fn start_write(last: Page, mode: WriteMode, space: Space, a: u16, crc: u16) 
 
 // A whole byte to write is in: its CRC is sent, or the chip is armed at once.
 pub fn data_in(mode: WriteMode, t: Target, byte: u8, crc: u16) -> MemoryStage
-    ensures { result ≡ dataIn mode t byte crc }
+    ensures { result ≡ data_in mode t byte crc }
 {
     match mode {
         WriteMode::Ordinary => {
@@ -38,7 +38,7 @@ pub fn data_in(mode: WriteMode, t: Target, byte: u8, crc: u16) -> MemoryStage
 
 // The address rises by one, and the CRC register is loaded with it.
 pub fn raise(last: Page, mode: WriteMode, space: Space, a: u16) -> MemoryStage
-    ensures { result ≡ raised (pageCount last) mode space a }
+    ensures { result ≡ raised (page_count last) mode space a }
 {
     if (a as usize) + 1 < limits::limit(last, space) {
         stage::receive(
@@ -52,7 +52,7 @@ pub fn raise(last: Page, mode: WriteMode, space: Space, a: u16) -> MemoryStage
 
 // A byte has been read back.
 pub fn next_write(last: Page, mode: WriteMode, t: Target) -> MemoryStage
-    ensures { result ≡ nextWrite (pageCount last) mode t }
+    ensures { result ≡ next_write (page_count last) mode t }
 {
     match t {
         Target::Data(a) => raise(last, mode, Space::Data, a.0),
@@ -62,8 +62,8 @@ pub fn next_write(last: Page, mode: WriteMode, t: Target) -> MemoryStage
 
 // A pulse on an armed chip: the byte is ANDed into its target, and the target is then sent.
 pub fn fire(last: Page, mode: WriteMode, t: Target, byte: u8, image: &mut [u8]) -> MemoryStage
-    ensures image { image.new ≡ programmed (pageCount last) image.old t byte }
-    ensures stage { result ≡ readingBack (pageCount last) mode t image.new }
+    ensures image { image.new ≡ programmed (page_count last) image.old t byte }
+    ensures stage { result ≡ reading_back (page_count last) mode t image.new }
 {
     chip_memory::write::program(image, last, t, byte);
     stage::send_byte(

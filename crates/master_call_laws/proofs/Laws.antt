@@ -3,7 +3,7 @@ use Prim.Native.Nat.{ℕ, ◌<◌}
 use mathlib.Core.Path.{refl}
 use Rattle.bus_scripts.proofs.Scripts.{script-laws}
 use Rattle.master_publisher.specs.Start.{choice_of}
-use Rattle.master_publisher.specs.Call.{callAnswer, callState}
+use Rattle.master_publisher.specs.Call.{call_answer, call_state}
 use Rattle.master_call_laws.specs.Calls.{CallLaws}
 use Rattle.master_call_laws.proofs.Ranges.{start_fits, call-keeps, call-outside, call-numbers, call-never, call-no-crc}
 use Rattle.master_call_laws.proofs.Listed.{publisher-listed}
@@ -22,5 +22,5 @@ call-laws n some =
       plays = λ kind img new p replies. choice-plays n kind img new p replies (choice_of n kind.placement img new p) refl (start_fits n some kind img new p);
       plays-started = started-plays n;
       ordered = events-ordered n;
-      plays-on = λ react line s b replies st. script-laws.on-bus react line (callState n) (callAnswer n) (λ rs. started-plays n s rs st) b replies;
+      plays-on = λ react line s b replies st. script-laws.on-bus react line (call_state n) (call_answer n) (λ rs. started-plays n s rs st) b replies;
     }

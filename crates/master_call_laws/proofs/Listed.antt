@@ -8,7 +8,7 @@ use lib.Dec.{ltb, leb}
 use borrow.Author.Tests.{lt-ltb, le-leb, leb-true, ltb-true}
 use Rattle.base_types.specs.declared.write_mode.WriteMode.{WriteMode}
 use Rattle.base_types.specs.declared.write_mode.WriteMode.TheVariants.{Ordinary, Quick}
-use Rattle.chip_memory.specs.Layout.{isPage}
+use Rattle.chip_memory.specs.Layout.{is_page}
 use Rattle.base_types.proofs.Tests.{both, beyond}
 use Rattle.master_plan.specs.declared.kind.UpdateKind.{UpdateKind}
 use Rattle.master_plan.specs.Kind.{total_of}
@@ -18,10 +18,10 @@ use Rattle.master_publisher.specs.declared.PublisherStop.TheVariants.{Redirectio
 use Rattle.master_publisher.specs.declared.Stage.{Stage}
 use Rattle.master_publisher.specs.declared.Stage.TheVariants.{Running, Done, Stopped}
 use Rattle.master_publisher.specs.declared.Publisher.{Publisher}
-use Rattle.master_publisher.specs.Call.{readsCrc, stopInRange, stageInRange, publisherInRange}
+use Rattle.master_publisher.specs.Call.{reads_crc, stop_in_range, stage_in_range, publisher_in_range}
 use Rattle.master_call_laws.specs.Ranges.{StopListed, StageListed, PublisherListed}
 
-reads-listed : (mode : WriteMode) → (readsCrc mode ≡ true) ↔ (mode ≡ Ordinary)
+reads-listed : (mode : WriteMode) → (reads_crc mode ≡ true) ↔ (mode ≡ Ordinary)
 reads-listed Ordinary = (λ h. refl, λ e. refl)
 reads-listed Quick = (λ h. cc, λ e. cc)
 
@@ -30,8 +30,8 @@ open-stop : {A : Type 0} {x : A} → (x ≡ x) ↔ Unit {0}
 open-stop = (λ h. tt, λ l. refl)
 
 module _ (mode : WriteMode) (n : ℕ) where
-  stop-listed : (stop : PublisherStop) → (stopInRange mode n stop ≡ true) ↔ StopListed mode n stop
-  unfolding isPage
+  stop-listed : (stop : PublisherStop) → (stop_in_range mode n stop ≡ true) ↔ StopListed mode n stop
+  unfolding is_page
   stop-listed ImageLength = open-stop
   stop-listed PageNumber = open-stop
   stop-listed Loop = open-stop
@@ -44,13 +44,13 @@ module _ (mode : WriteMode) (n : ℕ) where
   stop-listed NoPresence = open-stop
   stop-listed (DataProtected l) = (ltb-true l.0 n, lt-ltb l.0 n)
 
-stage-listed : (kind : UpdateKind) (n : ℕ) (g : Stage) → (stageInRange kind n g ≡ true) ↔ StageListed kind n g
+stage-listed : (kind : UpdateKind) (n : ℕ) (g : Stage) → (stage_in_range kind n g ≡ true) ↔ StageListed kind n g
 stage-listed kind n (Running k good) = (leb-true k (total_of kind), le-leb k (total_of kind))
 stage-listed kind n Done = open-stop
 stage-listed kind n (Stopped stop) = stop-listed kind.mode n stop
 
-pub publisher-listed : (n : ℕ) (s : Publisher) → (publisherInRange n s ≡ true) ↔ PublisherListed n s
-unfolding publisherInRange isPage
+pub publisher-listed : (n : ℕ) (s : Publisher) → (publisher_in_range n s ≡ true) ↔ PublisherListed n s
+unfolding publisher_in_range is_page
 publisher-listed n s = (
   λ h. let a = both (ltb s.superseded.0 n) _ h in let b = both (ltb s.target.0 n) _ a.1 in
       record {

@@ -8,59 +8,59 @@ use native.Mathlib.Nat.{pow-succ'}
 use lib.Dec.{eqb}
 use lib.Bits.{bit_and, and_le_l, and_le_r}
 use borrow.Author.Tests.{eq-eqb, ne_eqb, eqb-true, eqb-false}
-use Rattle.base_types.specs.Bits.{one, odd, bitsOfBytes, same}
+use Rattle.base_types.specs.Bits.{one, odd, bits_of_bytes, same}
 use Rattle.base_types.specs.Refusal.{number_of, values_of}
 use Rattle.base_types.specs.declared.address.Target.{Target}
 use Rattle.base_types.specs.declared.write_mode.WriteMode.{WriteMode}
 use Rattle.base_types.specs.declared.write_mode.WriteMode.TheVariants.{Ordinary, Quick}
 use Rattle.base_types.proofs.Tests.{and-true, and_assoc}
 use Rattle.base_types.proofs.Values.{one-odd}
-use Rattle.base_crc.specs.Crc.{crcBytes, crc16Byte, crc16Word}
+use Rattle.base_crc.specs.Crc.{crc_bytes, crc16_byte, crc16_word}
 use Rattle.bus_events.specs.Events.{slot, read_slot, pulse}
 use Rattle.bus_events.specs.Slots.{slots}
-use Rattle.bus_scripts.specs.Script.{Script, stops, gives, sends, checkWith, reset, sendBits, sendBytes, readBits}
+use Rattle.bus_scripts.specs.Script.{Script, stops, gives, sends, check_with, reset, send_bits, send_bytes, read_bits}
 use Rattle.master_plan.specs.declared.Wanted.{Wanted}
 use Rattle.master_plan.specs.declared.Wanted.TheVariants.{Presence, LastCrcBit, LastBackBit}
 use Rattle.master_plan.specs.declared.Step.{Step}
 use Rattle.master_plan.specs.declared.kind.UpdateKind.{UpdateKind}
 use Rattle.master_plan.specs.Kind.{selecting}
 use Rattle.master_plan.specs.Places.{clearing, head_of}
-use Rattle.master_plan.specs.Plan.{resetStep, pulseStep, freely, sendSteps, readSteps, crcSteps, backSteps, byteSteps, bytesSteps, headSteps, writeSteps, plan_of}
+use Rattle.master_plan.specs.Plan.{reset_step, pulse_step, freely, send_steps, read_steps, crc_steps, back_steps, byte_steps, bytes_steps, head_steps, write_steps, plan_of}
 use Rattle.master_publisher.specs.declared.PublisherStop.{PublisherStop}
 use Rattle.master_publisher.specs.declared.PublisherStop.TheVariants.{Crc16, ReadBack}
-use Rattle.master_publisher.specs.Stop.{publisherRefusal}
+use Rattle.master_publisher.specs.Stop.{publisher_refusal}
 use Rattle.master_publisher.specs.declared.Judged.{Judged}
 use Rattle.master_publisher.specs.declared.Judged.TheVariants.{On, Stop}
-use Rattle.master_publisher.specs.Code.Turn.{judgedLast, judgedPresence, judgedOf}
-use Rattle.master_call_laws.specs.Script.{checkCrc, writeByte, writeBytes, write, updateScript}
+use Rattle.master_publisher.specs.Code.Turn.{judged_last, judged_presence, judged_of}
+use Rattle.master_call_laws.specs.Script.{check_crc, write_byte, write_bytes, write, update_script}
 
 -- on is what follows, by whether the bits so far have agreed
 
-abbrev pub judgedScript : Judged → (Bool → Script) → Script
-judgedScript (On good) on = on good
-judgedScript (Stop stop) on = stops (number_of (publisherRefusal stop)) (values_of (publisherRefusal stop))
+abbrev pub judged_script : Judged → (Bool → Script) → Script
+judged_script (On good) on = on good
+judged_script (Stop stop) on = stops (number_of (publisher_refusal stop)) (values_of (publisher_refusal stop))
 
-abbrev pub asScript : List Step → (Bool → Script) → Bool → Script
-asScript [] on good = on good
-asScript (s ∷ ss) on good = sends s.event (λ r. judgedScript (judgedOf s.wanted good r) (asScript ss on))
+abbrev pub as_script : List Step → (Bool → Script) → Bool → Script
+as_script [] on good = on good
+as_script (s ∷ ss) on good = sends s.event (λ r. judged_script (judged_of s.wanted good r) (as_script ss on))
 
 -- parts of a plan one after the other
-in-turn : (a b : List Step) (on : Bool → Script) (good : Bool) → asScript (a ++ b) on good ≡ asScript a (asScript b on) good
+in-turn : (a b : List Step) (on : Bool → Script) (good : Bool) → as_script (a ++ b) on good ≡ as_script a (as_script b on) good
 in-turn [] b on good = refl
-in-turn (s ∷ ss) b on good = ap (sends s.event) (fun_ext (λ r. ap (judgedScript (judgedOf s.wanted good r)) (fun_ext (in-turn ss b on))))
+in-turn (s ∷ ss) b on good = ap (sends s.event) (fun_ext (λ r. ap (judged_script (judged_of s.wanted good r)) (fun_ext (in-turn ss b on))))
 
 -- replies that are not looked at
-free : (bits : List Bool) (on : Bool → Script) → asScript (freely (slots bits)) on true ≡ sendBits bits (on true)
-unfolding judgedOf sendBits
+free : (bits : List Bool) (on : Bool → Script) → as_script (freely (slots bits)) on true ≡ send_bits bits (on true)
+unfolding judged_of send_bits
 free [] on = refl
 free (bit ∷ bits) on = ap (sends (slot bit)) (fun_ext (λ r. free bits on))
 
 -- a reset
-reset-script : (on : Bool → Script) (good : Bool) → asScript (resetStep ∷ []) on good ≡ reset (on true)
-unfolding judgedOf judgedPresence
-reset-script on good = ap (sends resetStep.event) (fun_ext go)
+reset-script : (on : Bool → Script) (good : Bool) → as_script (reset_step ∷ []) on good ≡ reset (on true)
+unfolding judged_of judged_presence
+reset-script on good = ap (sends reset_step.event) (fun_ext go)
   where
-    go : (r : Bool) → judgedScript (judgedOf Presence good r) on ≡ checkWith (not r) 13 [] (on true)
+    go : (r : Bool) → judged_script (judged_of Presence good r) on ≡ check_with (not r) 13 [] (on true)
     go true = refl
     go false = refl
 
@@ -83,40 +83,40 @@ bit-by-bit r w v = go r (odd v) (one-odd v)
     go false true h = sym (ne_eqb (0 + 2 * w) v (λ e. omega arith))
     go false false h = both_ways w (v / 2) (0 + 2 * w) v (λ e. omega arith) (λ e. omega arith)
 
-module _ (last : Bool → Wanted) (stop : PublisherStop) (judged : (b good r : Bool) → judgedOf (last b) good r ≡ judgedLast (good && same b r) stop) (on : Bool → Script) where
+module _ (last : Bool → Wanted) (stop : PublisherStop) (judged : (b good r : Bool) → judged_of (last b) good r ≡ judged_last (good && same b r) stop) (on : Bool → Script) where
   -- what follows a number that was read
-  abbrev judgedBy : Bool → Script
-  judgedBy test = checkWith test (number_of (publisherRefusal stop)) (values_of (publisherRefusal stop)) (on true)
+  abbrev judged_by : Bool → Script
+  judged_by test = check_with test (number_of (publisher_refusal stop)) (values_of (publisher_refusal stop)) (on true)
 
-  last-script : (test : Bool) → judgedScript (judgedLast test stop) on ≡ judgedBy test
-  unfolding judgedLast
+  last-script : (test : Bool) → judged_script (judged_last test stop) on ≡ judged_by test
+  unfolding judged_last
   last-script true = refl
   last-script false = refl
 
-  reads : (k v : ℕ) (good : Bool) → v < 2 ^ suc k → asScript (readSteps last (suc k) v) on good ≡ readBits (suc k) (λ got. judgedBy (good && eqb got v))
-  unfolding readSteps judgedOf readBits
+  reads : (k v : ℕ) (good : Bool) → v < 2 ^ suc k → as_script (read_steps last (suc k) v) on good ≡ read_bits (suc k) (λ got. judged_by (good && eqb got v))
+  unfolding read_steps judged_of read_bits
   reads zero v good lt =
       let h : eqb 0 (v / 2) ≡ true = eq-eqb 0 (v / 2) (omega arith) in
       ap (sends read_slot) (fun_ext (λ r.
-      ap (λ (j : Judged). judgedScript j on) (judged (odd v) good r)
+      ap (λ (j : Judged). judged_script j on) (judged (odd v) good r)
       ∙ last-script (good && same (odd v) r)
-      ∙ ap (λ (b : Bool). judgedBy (good && b)) (sym (and-true (same (odd v) r)) ∙ ap (λ (b : Bool). same (odd v) r && b) (sym h) ∙ bit-by-bit r 0 v)))
+      ∙ ap (λ (b : Bool). judged_by (good && b)) (sym (and-true (same (odd v) r)) ∙ ap (λ (b : Bool). same (odd v) r && b) (sym h) ∙ bit-by-bit r 0 v)))
   reads (suc k) v good lt =
       ap (sends read_slot) (fun_ext (λ r.
       reads k (v / 2) (good && same (odd v) r) (omega (arith, pow-succ' 2 (suc k)))
-      ∙ ap (readBits (suc k)) (fun_ext (λ w.
-      ap judgedBy (and_assoc good (same (odd v) r) (eqb w (v / 2)) ∙ ap (λ (b : Bool). good && b) (bit-by-bit r w v))))))
+      ∙ ap (read_bits (suc k)) (fun_ext (λ w.
+      ap judged_by (and_assoc good (same (odd v) r) (eqb w (v / 2)) ∙ ap (λ (b : Bool). good && b) (bit-by-bit r w v))))))
 
 -- ---- a byte
 
-sent : (bytes : List ℕ) (on : Bool → Script) → asScript (sendSteps bytes) on true ≡ sendBytes bytes (on true)
-unfolding sendSteps
-sent bytes on = free (bitsOfBytes bytes) on
+sent : (bytes : List ℕ) (on : Bool → Script) → as_script (send_steps bytes) on true ≡ send_bytes bytes (on true)
+unfolding send_steps
+sent bytes on = free (bits_of_bytes bytes) on
 
 crc-checked : (mode : WriteMode) (register byte : ℕ) (on : Bool → Script)
-    → asScript (crcSteps mode (crc16Word (crc16Byte register byte))) on true ≡ checkCrc mode (crc16Word (crc16Byte register byte)) (on true)
-unfolding crcSteps judgedOf
-crc-checked Ordinary register byte on = reads LastCrcBit Crc16 (λ b good r. refl) on 15 (crc16Word (crc16Byte register byte)) true (omega arith)
+    → as_script (crc_steps mode (crc16_word (crc16_byte register byte))) on true ≡ check_crc mode (crc16_word (crc16_byte register byte)) (on true)
+unfolding crc_steps judged_of
+crc-checked Ordinary register byte on = reads LastCrcBit Crc16 (λ b good r. refl) on 15 (crc16_word (crc16_byte register byte)) true (omega arith)
 crc-checked Quick register byte on = refl
 
 -- every byte that is sent over this old one reads back as a byte
@@ -129,19 +129,19 @@ blank-fits [] = tt
 blank-fits (byte ∷ bytes) = (omega (arith, and_le_l 255 byte), blank-fits bytes)
 
 byte-written : (mode : WriteMode) (register old byte : ℕ) (on : Bool → Script) → bit_and old byte < 256
-    → asScript (byteSteps mode register old byte) on true ≡ writeByte mode (crc16Byte register byte) old byte (on true)
-unfolding byteSteps judgedOf backSteps
+    → as_script (byte_steps mode register old byte) on true ≡ write_byte mode (crc16_byte register byte) old byte (on true)
+unfolding byte_steps judged_of back_steps
 byte-written mode register old byte on lt =
-    in-turn (sendSteps (byte ∷ [])) _ on true
+    in-turn (send_steps (byte ∷ [])) _ on true
     ∙ sent (byte ∷ []) _
-    ∙ ap (sendBytes (byte ∷ [])) (in-turn (crcSteps mode _) (pulseStep ∷ backSteps old byte) on true
-    ∙ crc-checked mode register byte (asScript (pulseStep ∷ backSteps old byte) on)
-    ∙ ap (λ (x : Script). checkCrc mode (crc16Word (crc16Byte register byte)) (sends pulse (λ r. x)))
+    ∙ ap (send_bytes (byte ∷ [])) (in-turn (crc_steps mode _) (pulse_step ∷ back_steps old byte) on true
+    ∙ crc-checked mode register byte (as_script (pulse_step ∷ back_steps old byte) on)
+    ∙ ap (λ (x : Script). check_crc mode (crc16_word (crc16_byte register byte)) (sends pulse (λ r. x)))
     (reads LastBackBit ReadBack (λ b good x. refl) on 7 (bit_and old byte) true lt))
 
 bytes-written : (mode : WriteMode) (bytes : List ℕ) (a register old : ℕ) (on : Bool → Script) → BackFits old bytes
-    → asScript (bytesSteps mode a register old bytes) on true ≡ writeBytes mode (crc16Byte register) a old bytes (on true)
-unfolding bytesSteps writeBytes crcBytes
+    → as_script (bytes_steps mode a register old bytes) on true ≡ write_bytes mode (crc16_byte register) a old bytes (on true)
+unfolding bytes_steps write_bytes crc_bytes
 bytes-written mode [] a register old on fit = refl
 bytes-written mode (byte ∷ bytes) a register old on fit =
     simp (in-turn, byte-written, fit.0, bytes-written mode bytes (a + 1) (a + 1) old on fit.1)
@@ -150,17 +150,17 @@ bytes-written mode (byte ∷ bytes) a register old on fit =
 
 module _ (kind : UpdateKind) where
   selected : (target : Target) (on : Bool → Script) (good : Bool)
-      → asScript (headSteps kind target) on good ≡ reset (sendBytes (selecting kind.selection ++ head_of kind.mode target) (on true))
-  unfolding headSteps
-  selected target on good = reset-script (asScript (sendSteps (selecting kind.selection ++ head_of kind.mode target)) on) good ∙ ap reset (sent _ on)
+      → as_script (head_steps kind target) on good ≡ reset (send_bytes (selecting kind.selection ++ head_of kind.mode target) (on true))
+  unfolding head_steps
+  selected target on good = reset-script (as_script (send_steps (selecting kind.selection ++ head_of kind.mode target)) on) good ∙ ap reset (sent _ on)
 
   written : (target : Target) (old : ℕ) (bytes : List ℕ) (on : Bool → Script) (good : Bool) → BackFits old bytes
-      → asScript (writeSteps kind target old bytes) on good ≡ write kind target old bytes (on true)
-  unfolding writeSteps write crcBytes
+      → as_script (write_steps kind target old bytes) on good ≡ write kind target old bytes (on true)
+  unfolding write_steps write crc_bytes
   written target old bytes on good fit = simp (in-turn, selected, bytes-written)
 
-  pub planned : (l t used : ℕ) (new : List ℕ) → asScript (plan_of kind l t used new) (λ good. gives (l ∷ t ∷ []) []) true ≡ updateScript kind l t used new
-  unfolding plan_of updateScript
+  pub planned : (l t used : ℕ) (new : List ℕ) → as_script (plan_of kind l t used new) (λ good. gives (l ∷ t ∷ []) []) true ≡ update_script kind l t used new
+  unfolding plan_of update_script
   planned l t used new =
       let back = and_le_r used (clearing t) in
       let small : BackFits used (clearing t ∷ []) = (omega arith, tt) in

@@ -11,11 +11,11 @@ use Rattle.master_publisher.specs.declared.PublisherStop.TheVariants.{Redirectio
 use Rattle.master_publisher.specs.declared.Stage.{Stage}
 use Rattle.master_publisher.specs.declared.Stage.TheVariants.{Running, Done, Stopped}
 use Rattle.master_publisher.specs.declared.Publisher.{Publisher}
-use Rattle.master_publisher.specs.Call.{readsCrc}
+use Rattle.master_publisher.specs.Call.{reads_crc}
 
 -- the numbers of the refusals that an update can tell; 6 where CRCs are read alone
-abbrev pub tellsNumber : WriteMode → ℕ → Bool
-tellsNumber mode number = cond (eqb number 6) (readsCrc mode) (among number (1 ∷ 3 ∷ 4 ∷ 5 ∷ 7 ∷ 8 ∷ 9 ∷ 10 ∷ 13 ∷ 20 ∷ []))
+abbrev pub tells_number : WriteMode → ℕ → Bool
+tells_number mode number = cond (eqb number 6) (reads_crc mode) (among number (1 ∷ 3 ∷ 4 ∷ 5 ∷ 7 ∷ 8 ∷ 9 ∷ 10 ∷ 13 ∷ 20 ∷ []))
 
 -- what stopped an update: 5 has a number that is no page, 9 and 20 have a page, and 6 stops it in the ordinary mode alone
 abbrev pub StopListed : WriteMode → ℕ → PublisherStop → Type 0

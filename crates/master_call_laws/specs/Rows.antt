@@ -6,45 +6,45 @@ use Rattle.master_plan.specs.declared.kind.Placement.TheVariants.{LowestFree}
 use Rattle.master_publisher.specs.declared.PublisherStop.TheVariants.{RedirectionProtected, DataProtected}
 use Rattle.chip_memory.specs.declared.layout.Field.{Field}
 use Rattle.chip_memory.specs.declared.layout.Field.TheVariants.{DataProtection, RedirectionProtection}
-use Rattle.chip_memory.specs.Layout.{firstAddress, redirectionBytes, blankImage, statusIndex, isImage, isPage, isWithin, is_held}
-use Rattle.chip_memory.specs.Image.{pageBit, redirectionOf, pageBytes}
-use Rattle.chip_memory.specs.Page.{isBlank}
-use Rattle.chip_memory.specs.Write.{bit_of, statusWritable, isWritable, index_of, programmed}
-use Rattle.chip_chain.specs.Walk.{walkFrom, walk_of}
+use Rattle.chip_memory.specs.Layout.{first_address, redirection_bytes, blank_image, status_index, is_image, is_page, is_within, is_held}
+use Rattle.chip_memory.specs.Image.{page_bit, redirection_of, page_bytes}
+use Rattle.chip_memory.specs.Page.{is_blank}
+use Rattle.chip_memory.specs.Write.{bit_of, status_writable, is_writable, index_of, programmed}
+use Rattle.chip_chain.specs.Walk.{walk_from, walk_of}
 use Rattle.base_types.specs.Rows.{Row, ◌gives◌, Hold}
 use Rattle.base_types.specs.Scan.{every}
 use Rattle.chip_chain.specs.Scan.{first}
-use Rattle.chip_chain.specs.Free.{isUnnamed, isFree, isFreeOther, lowestFree}
+use Rattle.chip_chain.specs.Free.{is_unnamed, is_free, is_free_other, lowest_free}
 use Rattle.master_publisher.specs.declared.Choice.{Choice}
 use Rattle.master_publisher.specs.declared.Choice.TheVariants.{Refused, Accepted}
-use Rattle.master_publisher.specs.Start.{foundChoice, choiceFree, choiceFinal, choiceWalked, choice_of}
+use Rattle.master_publisher.specs.Start.{found_choice, choice_free, choice_final, choice_walked, choice_of}
 
 -- all FFh but that page 5 names page 9
-pub redirectedOnce : List ℕ
-redirectedOnce = set (blankImage 64) (statusIndex 64 (redirectionBytes + 5)) (255 - 9)
+pub redirected_once : List ℕ
+redirected_once = set (blank_image 64) (status_index 64 (redirection_bytes + 5)) (255 - 9)
 
 -- the bit of page p in a field is cleared by a write
 pub protecting : Field → ℕ → List ℕ → List ℕ
-protecting field p img = programmed 64 img (Status (record { 0 = firstAddress field + p / 8 })) (255 - 2 ^ (p % 8))
+protecting field p img = programmed 64 img (Status (record { 0 = first_address field + p / 8 })) (255 - 2 ^ (p % 8))
 
 pub page_of : ℕ → Page
 page_of p = record { 0 = p }
 
 -- the update of page 5
-pub updateOf : List ℕ → Choice
-updateOf img = choice_of 64 LowestFree img (replicate 32 0) 5
+pub update_of : List ℕ → Choice
+update_of img = choice_of 64 LowestFree img (replicate 32 0) 5
 
-pub protectionRows : List (Row Choice)
-protectionRows =
-    (updateOf redirectedOnce gives Accepted (page_of 9) (page_of 1))
-    ∷ (updateOf (protecting DataProtection 5 redirectedOnce) gives Accepted (page_of 9) (page_of 1))
-    ∷ (updateOf (protecting DataProtection 1 redirectedOnce) gives Accepted (page_of 9) (page_of 2))
-    ∷ (updateOf (protecting DataProtection 9 redirectedOnce) gives Refused (DataProtected (page_of 9)))
-    ∷ (updateOf (protecting RedirectionProtection 9 redirectedOnce) gives Refused (RedirectionProtected (page_of 9)))
-    ∷ (updateOf (protecting DataProtection 9 (protecting RedirectionProtection 9 redirectedOnce)) gives Refused (DataProtected (page_of 9)))
+pub protection_rows : List (Row Choice)
+protection_rows =
+    (update_of redirected_once gives Accepted (page_of 9) (page_of 1))
+    ∷ (update_of (protecting DataProtection 5 redirected_once) gives Accepted (page_of 9) (page_of 1))
+    ∷ (update_of (protecting DataProtection 1 redirected_once) gives Accepted (page_of 9) (page_of 2))
+    ∷ (update_of (protecting DataProtection 9 redirected_once) gives Refused (DataProtected (page_of 9)))
+    ∷ (update_of (protecting RedirectionProtection 9 redirected_once) gives Refused (RedirectionProtected (page_of 9)))
+    ∷ (update_of (protecting DataProtection 9 (protecting RedirectionProtection 9 redirected_once)) gives Refused (DataProtected (page_of 9)))
     ∷ []
 
-pub protectionRows-hold : Hold protectionRows
-unfolding protectionRows updateOf redirectedOnce protecting page_of choice_of choiceWalked choiceFinal choiceFree foundChoice isImage isPage pageBit firstAddress walk_of walkFrom redirectionOf
-    lowestFree isFreeOther isFree isUnnamed every first isBlank pageBytes programmed isWritable statusWritable is_held isWithin bit_of index_of
-protectionRows-hold = refl
+pub protection_rows-hold : Hold protection_rows
+unfolding protection_rows update_of redirected_once protecting page_of choice_of choice_walked choice_final choice_free found_choice is_image is_page page_bit first_address walk_of walk_from redirection_of
+    lowest_free is_free_other is_free is_unnamed every first is_blank page_bytes programmed is_writable status_writable is_held is_within bit_of index_of
+protection_rows-hold = refl

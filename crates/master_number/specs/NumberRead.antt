@@ -9,47 +9,47 @@ use Rattle.master_number.specs.declared.NumberRead.{NumberRead}
 use Rattle.master_number.specs.declared.Answer.{Answer}
 use Rattle.master_number.specs.declared.Answer.TheVariants.{Send, Done as Ended, Refused}
 use Rattle.master_number.specs.declared.Stepped.{Stepped}
-use Rattle.master_number.specs.Number.{crcFits, familyFits}
-use Rattle.master_number.specs.Code.NumberSteps.{numberNext, numberPhaseAnswer}
+use Rattle.master_number.specs.Number.{crc_fits, family_fits}
+use Rattle.master_number.specs.Code.NumberSteps.{number_next, number_phase_answer}
 
 -- ---- ranges
 
-unfoldable pub numberReceiveInRange : ℕ → ℕ → Bool
-numberReceiveInRange k left = cond (ltb left 1) false (cond (ltb 8 left) false (ltb k 8))
+unfoldable pub number_receive_in_range : ℕ → ℕ → Bool
+number_receive_in_range k left = cond (ltb left 1) false (cond (ltb 8 left) false (ltb k 8))
 
 -- the bytes are a number that the read accepts
 unfoldable pub is_number : List ℕ → Bool
-is_number bytes = cond (crcFits bytes) (familyFits bytes) false
+is_number bytes = cond (crc_fits bytes) (family_fits bytes) false
 
-unfoldable pub numberPhaseInRange : Phase → List ℕ → Bool
-numberPhaseInRange Begin bytes = true
-numberPhaseInRange Presence bytes = true
-numberPhaseInRange (Command i) bytes = ltb i 8
-numberPhaseInRange (Receive k left v) bytes = numberReceiveInRange k left
-numberPhaseInRange Closing bytes = is_number bytes
-numberPhaseInRange Done bytes = is_number bytes
-numberPhaseInRange (Stopped cause) bytes = true
+unfoldable pub number_phase_in_range : Phase → List ℕ → Bool
+number_phase_in_range Begin bytes = true
+number_phase_in_range Presence bytes = true
+number_phase_in_range (Command i) bytes = ltb i 8
+number_phase_in_range (Receive k left v) bytes = number_receive_in_range k left
+number_phase_in_range Closing bytes = is_number bytes
+number_phase_in_range Done bytes = is_number bytes
+number_phase_in_range (Stopped cause) bytes = true
 
-abbrev pub numberInRange : NumberRead → Bool
-numberInRange s = numberPhaseInRange s.phase s.bytes
+abbrev pub number_in_range : NumberRead → Bool
+number_in_range s = number_phase_in_range s.phase s.bytes
 
 -- ---- the calls
 
-abbrev pub numberBegun : NumberRead
-numberBegun = record { phase = Begin; bytes = replicate 8 0 }
+abbrev pub number_begun : NumberRead
+number_begun = record { phase = Begin; bytes = replicate 8 0 }
 
 -- what an answer tells; the end tells the state's eight bytes
-abbrev pub answerOutcome : Answer → List ℕ → Outcome Next
-answerOutcome (Send e) bytes = accepted (send e)
-answerOutcome Ended bytes = accepted (tells bytes)
-answerOutcome (Refused r) bytes = refusing r
+abbrev pub answer_outcome : Answer → List ℕ → Outcome Next
+answer_outcome (Send e) bytes = accepted (send e)
+answer_outcome Ended bytes = accepted (tells bytes)
+answer_outcome (Refused r) bytes = refusing r
 
-abbrev pub numberOutcome : Stepped → Outcome Next
-numberOutcome r = answerOutcome r.answer r.state.bytes
+abbrev pub number_outcome : Stepped → Outcome Next
+number_outcome r = answer_outcome r.answer r.state.bytes
 
 -- 2, or what is told on the way into the state that the reply leads to
-unfoldable pub numberAnswer : NumberRead → Bool → Outcome Next
-numberAnswer s reply = judge (numberInRange s) 2 (answerOutcome (numberPhaseAnswer (numberNext s reply).phase) (numberNext s reply).bytes)
+unfoldable pub number_answer : NumberRead → Bool → Outcome Next
+number_answer s reply = judge (number_in_range s) 2 (answer_outcome (number_phase_answer (number_next s reply).phase) (number_next s reply).bytes)
 
-unfoldable pub numberState : NumberRead → Bool → NumberRead
-numberState s reply = cond (numberInRange s) (numberNext s reply) s
+unfoldable pub number_state : NumberRead → Bool → NumberRead
+number_state s reply = cond (number_in_range s) (number_next s reply) s

@@ -1,11 +1,11 @@
 // The number read: a master that reads a chip's registration number. Reset, 33h, 64 read slots, closing reset.
 // The state says which event was last sent, so a call's answer is a function of the state that the reply leads to.
 ghost use Rattle.std.specs.Prelude.{◌≡◌, set};
-ghost use Rattle.master_number.specs.Code.NumberSteps.{numberWith, numberStopped, numberPresence, afterReadRom, familyJudged, crcJudged};
-ghost use Rattle.master_number.specs.Code.NumberSteps.{numberStored, numberByteIn, numberBitIn, numberClosed, numberNext, numberPhaseAnswer};
-ghost use Rattle.master_number.specs.Number.{crcFits, familyFits, numberStop};
-ghost use Rattle.master_number.specs.NumberRead.{numberReceiveInRange, is_number, numberPhaseInRange, numberInRange, numberBegun};
-ghost use Rattle.master_number.specs.NumberRead.{numberOutcome, numberAnswer, numberState};
+ghost use Rattle.master_number.specs.Code.NumberSteps.{number_with, number_stopped, number_presence, after_read_rom, family_judged, crc_judged};
+ghost use Rattle.master_number.specs.Code.NumberSteps.{number_stored, number_byte_in, number_bit_in, number_closed, number_next, number_phase_answer};
+ghost use Rattle.master_number.specs.Number.{crc_fits, family_fits, number_stop};
+ghost use Rattle.master_number.specs.NumberRead.{number_receive_in_range, is_number, number_phase_in_range, number_in_range, number_begun};
+ghost use Rattle.master_number.specs.NumberRead.{number_outcome, number_answer, number_state};
 
 use base_types::bits;
 use base_types::refusal::Refusal;
@@ -53,14 +53,14 @@ pub struct Stepped {
 }
 
 fn with_phase(s: NumberRead, phase: Phase) -> NumberRead
-    ensures { result ≡ numberWith s phase }
+    ensures { result ≡ number_with s phase }
 {
     let bytes = s.bytes;
     NumberRead { phase, bytes }
 }
 
 fn stop(s: NumberRead, cause: NumberStop) -> NumberRead
-    ensures { result ≡ numberStopped s cause }
+    ensures { result ≡ number_stopped s cause }
 {
     with_phase(s, Phase::Stopped(cause))
 }
@@ -68,7 +68,7 @@ fn stop(s: NumberRead, cause: NumberStop) -> NumberRead
 // ---- what a reply does
 
 fn present(s: NumberRead, reply: bool) -> NumberRead
-    ensures { result ≡ numberPresence s reply }
+    ensures { result ≡ number_presence s reply }
 {
     if reply {
         stop(s, NumberStop::NoPresence)
@@ -78,7 +78,7 @@ fn present(s: NumberRead, reply: bool) -> NumberRead
 }
 
 fn after_command(i: u8) -> Phase
-    ensures { result ≡ afterReadRom i }
+    ensures { result ≡ after_read_rom i }
 {
     if i < 7 {
         Phase::Command(i + 1)
@@ -89,19 +89,19 @@ fn after_command(i: u8) -> Phase
 
 // The last byte is the CRC-8 of the others.
 fn crc_agrees(bytes: [u8; 8]) -> bool
-    ensures { result ≡ crcFits bytes }
+    ensures { result ≡ crc_fits bytes }
 {
     bytes[7] == base_crc::crc8::of(&bytes[..7])
 }
 
 fn is_family(bytes: [u8; 8]) -> bool
-    ensures { result ≡ familyFits bytes }
+    ensures { result ≡ family_fits bytes }
 {
     bytes[0] == 0x0B
 }
 
 fn judge_family(s: NumberRead) -> NumberRead
-    ensures { result ≡ familyJudged s }
+    ensures { result ≡ family_judged s }
 {
     let bytes = s.bytes;
     if is_family(bytes) {
@@ -113,7 +113,7 @@ fn judge_family(s: NumberRead) -> NumberRead
 
 // All 64 bits are in.
 fn judge(s: NumberRead) -> NumberRead
-    ensures { result ≡ crcJudged s }
+    ensures { result ≡ crc_judged s }
 {
     let bytes = s.bytes;
     if crc_agrees(bytes) {
@@ -137,7 +137,7 @@ fn store(bytes: [u8; 8], k: u8, v: u8) -> [u8; 8]
 }
 
 fn keep(s: NumberRead, k: u8, v: u8) -> NumberRead
-    ensures { result ≡ numberStored s k v }
+    ensures { result ≡ number_stored s k v }
 {
     let phase = s.phase;
     let old = s.bytes;
@@ -147,7 +147,7 @@ fn keep(s: NumberRead, k: u8, v: u8) -> NumberRead
 
 // Byte k is in.
 fn byte_in(s: NumberRead, k: u8) -> NumberRead
-    ensures { result ≡ numberByteIn s k }
+    ensures { result ≡ number_byte_in s k }
 {
     if k < 7 {
         with_phase(s, Phase::Receive(k + 1, 8, 0))
@@ -158,7 +158,7 @@ fn byte_in(s: NumberRead, k: u8) -> NumberRead
 
 // One bit of byte k is in, and the register holds v.
 fn bit_in(s: NumberRead, k: u8, left: u8, v: u8) -> NumberRead
-    ensures { result ≡ numberBitIn s k left v }
+    ensures { result ≡ number_bit_in s k left v }
 {
     if 1 < left {
         with_phase(s, Phase::Receive(k, left - 1, v))
@@ -168,7 +168,7 @@ fn bit_in(s: NumberRead, k: u8, left: u8, v: u8) -> NumberRead
 }
 
 fn close(s: NumberRead, reply: bool) -> NumberRead
-    ensures { result ≡ numberClosed s reply }
+    ensures { result ≡ number_closed s reply }
 {
     if reply {
         stop(s, NumberStop::NoPresence)
@@ -178,7 +178,7 @@ fn close(s: NumberRead, reply: bool) -> NumberRead
 }
 
 fn take(s: NumberRead, reply: bool) -> NumberRead
-    ensures { result ≡ numberNext s reply }
+    ensures { result ≡ number_next s reply }
 {
     let phase = s.phase;
     match phase {
@@ -196,7 +196,7 @@ fn take(s: NumberRead, reply: bool) -> NumberRead
 
 // The refusal that a stopped read tells.
 pub fn refusal_for(cause: NumberStop) -> Refusal
-    ensures { result ≡ numberStop cause }
+    ensures { result ≡ number_stop cause }
 {
     match cause {
         NumberStop::NoPresence => Refusal::NoPresence,
@@ -206,7 +206,7 @@ pub fn refusal_for(cause: NumberStop) -> Refusal
 }
 
 fn answer_for(phase: Phase) -> Answer
-    ensures { result ≡ numberPhaseAnswer phase }
+    ensures { result ≡ number_phase_answer phase }
 {
     match phase {
         Phase::Begin => Answer::Send(bus_events::reset()),
@@ -222,7 +222,7 @@ fn answer_for(phase: Phase) -> Answer
 // ---- ranges
 
 fn receive_in_range(k: u8, left: u8) -> bool
-    ensures { result ≡ numberReceiveInRange k left }
+    ensures { result ≡ number_receive_in_range k left }
 {
     if left < 1 {
         return false;
@@ -245,7 +245,7 @@ fn is_number(bytes: [u8; 8]) -> bool
 }
 
 fn phase_in_range(phase: Phase, bytes: [u8; 8]) -> bool
-    ensures { result ≡ numberPhaseInRange phase bytes }
+    ensures { result ≡ number_phase_in_range phase bytes }
 {
     match phase {
         Phase::Begin => true,
@@ -260,7 +260,7 @@ fn phase_in_range(phase: Phase, bytes: [u8; 8]) -> bool
 
 // Whether a state is within its ranges; one that is not draws 2.
 pub fn in_range(s: NumberRead) -> bool
-    ensures { result ≡ numberInRange s }
+    ensures { result ≡ number_in_range s }
 {
     let phase = s.phase;
     let bytes = s.bytes;
@@ -271,7 +271,7 @@ pub fn in_range(s: NumberRead) -> bool
 
 // The start gives a state and no event.
 pub fn start() -> NumberRead
-    ensures { result ≡ numberBegun }
+    ensures { result ≡ number_begun }
 {
     NumberRead {
         phase: Phase::Begin,
@@ -282,8 +282,8 @@ pub fn start() -> NumberRead
 // A later call takes the reply to the last event and gives the next one, or an end, which it repeats when asked again.
 // Refused: 2, with the same state; 13, 14, 15, with the stopped state.
 pub fn call(state: NumberRead, reply: bool) -> Stepped
-    ensures answer { numberOutcome result ≡ numberAnswer state reply }
-    ensures state { result.state ≡ numberState state reply }
+    ensures answer { number_outcome result ≡ number_answer state reply }
+    ensures state { result.state ≡ number_state state reply }
 {
     if !in_range(state) {
         return Stepped {

@@ -2,7 +2,7 @@
 use Prim.Native.Nat.{ℕ, ◌%◌}
 use mathlib.Core.Path.{◌≡◌}
 use Rattle.bus_scripts.proofs.Scripts.{script-laws}
-use Rattle.master_number.specs.NumberRead.{numberAnswer, numberState}
+use Rattle.master_number.specs.NumberRead.{number_answer, number_state}
 use Rattle.master_number_laws.specs.Laws.{NumberLaws}
 use Rattle.master_number_laws.proofs.Ranges.{number-starts, number-keeps, number-listed, number-outside, number-never-2}
 use Rattle.master_number_laws.proofs.Plays.{number-plays}
@@ -21,6 +21,6 @@ number-laws n whole =
       ordered = number-ordered;
       agreed = number-agreed;
       image-stays = number-image-stays n;
-      plays-on = λ react line b replies good. script-laws.on-bus react line numberState numberAnswer number-plays b replies good;
+      plays-on = λ react line b replies good. script-laws.on-bus react line number_state number_answer number-plays b replies good;
       joined = λ c replies ok small good. number-joined n whole c ok small replies good;
     }

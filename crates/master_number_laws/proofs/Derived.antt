@@ -5,25 +5,25 @@ use mathlib.Core.List.{List, [], ◌∷◌, ◌++◌}
 use mathlib.Core.Path.{◌≡◌, refl, sym, ap, ◌∙◌, subst}
 use native.Mathlib.Omega.{arith}
 use lib.ListN.{length}
-use Rattle.base_types.specs.Bits.{bits_of, bitsOfBytes}
+use Rattle.base_types.specs.Bits.{bits_of, bits_of_bytes}
 use Rattle.base_types.specs.Outcome.{Outcome, refused, accepted}
 use Rattle.base_types.proofs.Words.{bytes-length}
 use Rattle.bus_events.specs.declared.Event.{Event}
 use Rattle.bus_events.specs.Events as bus
 use Rattle.bus_events.specs.Slots.{ones}
 use Rattle.bus_events.proofs.Slots.{slots-append}
-use Rattle.bus_scripts.specs.Next.{Next, tells, out_of, eventsOf}
+use Rattle.bus_scripts.specs.Next.{Next, tells, out_of, events_of}
 use Rattle.bus_scripts.specs.Joint.{Begins, Good}
-use Rattle.bus_scripts.specs.Script.{Script, gives, check, reset, readBytes, Played, playOn, telling}
+use Rattle.bus_scripts.specs.Script.{Script, gives, check, reset, read_bytes, Played, play_on, telling}
 use Rattle.bus_scripts.proofs.Orders as orders
 use Rattle.bus_scripts.proofs.Runs.{Runs, stopped, given, sent, Passes, ◌and-then◌, reset_runs, send-runs, bytes_runs, runs_on}
 use Rattle.bus_scripts.proofs.Runs.{onward, check-passed, reset-passed, send-passed, bytes-passed, given_is}
 use Rattle.bus_scripts.proofs.Ended.{told-ended}
 use Rattle.bus_scripts.proofs.Bounded.{Bounded, giving, bounded, check-bounded, reset-bounded, send-bounded, bytes-bounded}
 use Rattle.bus_scripts.proofs.Scripts.{script-laws}
-use Rattle.master_number_laws.specs.Script.{crc8Agrees, familyAgrees}
-use Rattle.master_number.specs.NumberRead.{numberBegun, numberAnswer, numberState}
-use Rattle.chip_entries.specs.Event.{awaitingMemory}
+use Rattle.master_number_laws.specs.Script.{crc8_agrees, family_agrees}
+use Rattle.master_number.specs.NumberRead.{number_begun, number_answer, number_state}
+use Rattle.chip_entries.specs.Event.{awaiting_memory}
 use Rattle.chip_entries.specs.Run.{Chip, next, run, line_at}
 use Rattle.chip_session_laws.specs.Session.{Ready, Bytes, Reaches, ◌at◌, read}
 use Rattle.chip_session_laws.proofs.Bus.{bus-hears}
@@ -31,49 +31,49 @@ use Rattle.chip_session_laws.proofs.Runs.{◌then◌, stays}
 use Rattle.chip_session_laws.proofs.Sessions.{selects, resets}
 use Rattle.chip_session_laws.proofs.Slots.{lines-read, ready}
 use Rattle.chip_session_laws.proofs.Unpulsed.{NoPulse, unpulsed}
-use Rattle.master_number_laws.specs.Laws.{numberAnswersTo, numberSlots, numberEvents, NumberAgreed, numberVerdict, numberEventsFor}
-use Rattle.master_number_laws.specs.Script.{numberScript}
+use Rattle.master_number_laws.specs.Laws.{number_answers_to, number_slots, number_events, NumberAgreed, number_verdict, number_events_for}
+use Rattle.master_number_laws.specs.Script.{number_script}
 use Rattle.master_number_laws.proofs.Plays.{number-plays}
 
 -- ---- whatever the replies
 
 -- what follows the number
 abbrev judging : List ℕ → Script
-judging number = check (crc8Agrees number) 14 (check (familyAgrees number) 15 (reset (gives number [])))
+judging number = check (crc8_agrees number) 14 (check (family_agrees number) 15 (reset (gives number [])))
 
-pub number-counted : length numberEvents ≡ 74
-unfolding bitsOfBytes bits_of
+pub number-counted : length number_events ≡ 74
+unfolding bits_of_bytes bits_of
 number-counted = refl
 
-pub number-ordered : (replies : List Bool) → Begins numberEvents (eventsOf (numberAnswersTo numberBegun replies))
-unfolding numberScript bitsOfBytes bits_of
+pub number-ordered : (replies : List Bool) → Begins number_events (events_of (number_answers_to number_begun replies))
+unfolding number_script bits_of_bytes bits_of
 number-ordered replies =
     rw (number-plays replies)
-    (orders.ordered (orders.reset-keeps (orders.bits-keeps (bitsOfBytes (0x33 ∷ [])) (orders.bytes-keeps 8
-    (λ number. orders.check-keeps (crc8Agrees number) 14 [] (orders.check-keeps (familyAgrees number) 15 [] (orders.reset-keeps orders.giving)))))) replies)
+    (orders.ordered (orders.reset-keeps (orders.bits-keeps (bits_of_bytes (0x33 ∷ [])) (orders.bytes-keeps 8
+    (λ number. orders.check-keeps (crc8_agrees number) 14 [] (orders.check-keeps (family_agrees number) 15 [] (orders.reset-keeps orders.giving)))))) replies)
 
-pub number-image-stays : (n : ℕ) (c : Chip) (replies : List Bool) → (run n c (eventsOf (numberAnswersTo numberBegun replies))).image ≡ c.image
-unfolding numberScript
+pub number-image-stays : (n : ℕ) (c : Chip) (replies : List Bool) → (run n c (events_of (number_answers_to number_begun replies))).image ≡ c.image
+unfolding number_script
 number-image-stays n c replies =
-    let h : Bounded NoPulse 74 numberScript =
-    reset-bounded refl (send-bounded (λ bit. refl) (bitsOfBytes (0x33 ∷ [])) 73 (omega (arith, bytes-length (0x33 ∷ []))) (bytes-bounded (λ bit. refl) 8 judging 65 (omega arith)
-    (λ number. check-bounded (crc8Agrees number) 14 [] (check-bounded (familyAgrees number) 15 [] (reset-bounded refl (giving {k = 0})))))) in
-    unpulsed n (eventsOf (numberAnswersTo numberBegun replies)) c (rw (number-plays replies) (bounded replies h).1)
+    let h : Bounded NoPulse 74 number_script =
+    reset-bounded refl (send-bounded (λ bit. refl) (bits_of_bytes (0x33 ∷ [])) 73 (omega (arith, bytes-length (0x33 ∷ []))) (bytes-bounded (λ bit. refl) 8 judging 65 (omega arith)
+    (λ number. check-bounded (crc8_agrees number) 14 [] (check-bounded (family_agrees number) 15 [] (reset-bounded refl (giving {k = 0})))))) in
+    unpulsed n (events_of (number_answers_to number_begun replies)) c (rw (number-plays replies) (bounded replies h).1)
 
 -- ---- a number that was told
 
 told-not : (bytes : List ℕ) (number : ℕ) (values : List ℕ) → accepted (tells bytes) ≡ refused number values → ⊥
 told-not bytes number values e = let z : ◌≡◌ {A = ℕ} 0 1 = cc in omega arith
 
-run-agreed : (first : Bool) (used rest : List Bool) (events : List Event) (bytes handed : List ℕ) → Runs numberScript used events (accepted (tells bytes)) handed
+run-agreed : (first : Bool) (used rest : List Bool) (events : List Event) (bytes handed : List ℕ) → Runs number_script used events (accepted (tells bytes)) handed
     → NumberAgreed (first ∷ (used ++ rest)) bytes
-unfolding numberScript
+unfolding number_script
 run-agreed first used rest events bytes handed h =
     let a = reset-passed (told-not bytes 13 []) h in
-    let s = send-passed (bitsOfBytes (0x33 ∷ [])) (readBytes 8 judging) a.runs in
+    let s = send-passed (bits_of_bytes (0x33 ∷ [])) (read_bytes 8 judging) a.runs in
     let b = bytes-passed 8 judging s.goes.runs in
-    let c = check-passed (crc8Agrees b.value) (told-not bytes 14 []) b.goes.runs in
-    let f = check-passed (familyAgrees b.value) (told-not bytes 15 []) c.1 in
+    let c = check-passed (crc8_agrees b.value) (told-not bytes 14 []) b.goes.runs in
+    let f = check-passed (family_agrees b.value) (told-not bytes 15 []) c.1 in
     let e = given_is (onward a (onward s.goes (onward b.goes (reset-passed (told-not bytes 13 []) f.1)))) in
     let same : b.value ≡ bytes = let q : accepted (tells bytes) ≡ accepted (tells b.value) = e.2 in cc in
     subst (NumberAgreed (first ∷ (used ++ rest))) same
@@ -90,50 +90,50 @@ run-agreed first used rest events bytes handed h =
     })
 
 pub number-agreed : (replies : List Bool) (before later : List (Outcome Next)) (bytes : List ℕ)
-    → numberAnswersTo numberBegun replies ≡ before ++ (accepted (tells bytes) ∷ later) → NumberAgreed replies bytes
+    → number_answers_to number_begun replies ≡ before ++ (accepted (tells bytes) ∷ later) → NumberAgreed replies bytes
 number-agreed [] [] later bytes e = let z : ◌≡◌ {A = ℕ} 0 1 = cc in absurd (omega arith)
 number-agreed [] (x ∷ before) later bytes e = let z : ◌≡◌ {A = ℕ} 0 1 = cc in absurd (omega arith)
 number-agreed (first ∷ rs) before later bytes e =
-    let h = told-ended numberScript first rs (accepted (tells bytes)) before later refl (sym (number-plays (first ∷ rs)) ∙ e) in
+    let h = told-ended number_script first rs (accepted (tells bytes)) before later refl (sym (number-plays (first ∷ rs)) ∙ e) in
     subst (λ (l : List Bool). NumberAgreed (first ∷ l) bytes) (sym h.is) (run-agreed first h.used h.rest h.events bytes h.bytes h.runs)
 
 -- ---- joined to a chip
 
-abbrev numberReplies : List ℕ → List Bool
-numberReplies number = (false ∷ bits_of 8 0x33) ++ bitsOfBytes number
+abbrev number_replies : List ℕ → List Bool
+number_replies number = (false ∷ bits_of 8 0x33) ++ bits_of_bytes number
 
 -- the replies of a number bring the script to where it is judged
-number-runs : (number : List ℕ) → length number ≡ 8 → Bytes number → Passes numberScript (numberReplies number) numberSlots (judging number)
-unfolding numberScript bitsOfBytes bits_of
+number-runs : (number : List ℕ) → length number ≡ 8 → Bytes number → Passes number_script (number_replies number) number_slots (judging number)
+unfolding number_script bits_of_bytes bits_of
 number-runs number eight small =
-    reset_runs and_then send-runs (bitsOfBytes (0x33 ∷ [])) (bits_of 8 0x33) refl and_then bytes_runs 8 number judging eight small
+    reset_runs and_then send-runs (bits_of_bytes (0x33 ∷ [])) (bits_of 8 0x33) refl and_then bytes_runs 8 number judging eight small
 
 module _ (n : ℕ) (whole : n % 8 ≡ 0) (c : Chip) (ok : Ready n c) (small : Bytes c.state.number) where
   abbrev number : List ℕ
   number = c.state.number
 
   -- reset, Read ROM, 64 read slots
-  draws : Reaches n c numberSlots (numberReplies number) (c at awaitingMemory)
-  unfolding bitsOfBytes bits_of
+  draws : Reaches n c number_slots (number_replies number) (c at awaiting_memory)
+  unfolding bits_of_bytes bits_of
   draws =
-      let l : length (bitsOfBytes number) ≡ 64 = omega (arith, bytes-length number, ok.eight) in
-      rw (lines-read 64 (bitsOfBytes number) l) at (rw (slots-append (bits_of 8 0x33) (ones 64)) at (selects n whole c ok (read (ones 64) refl)))
+      let l : length (bits_of_bytes number) ≡ 64 = omega (arith, bytes-length number, ok.eight) in
+      rw (lines-read 64 (bits_of_bytes number) l) at (rw (slots-append (bits_of 8 0x33) (ones 64)) at (selects n whole c ok (read (ones 64) refl)))
 
   -- and what follows
-  ends : {rs : List Bool} {es : List Event} {told : Outcome Next} {d : Chip} → Reaches n (c at awaitingMemory) es rs d → Runs (judging number) rs es told []
-      → playOn (next n) (line_at n) numberScript c ≡ record { events = numberSlots ++ es; told = told; bytes = [] }
+  ends : {rs : List Bool} {es : List Event} {told : Outcome Next} {d : Chip} → Reaches n (c at awaiting_memory) es rs d → Runs (judging number) rs es told []
+      → play_on (next n) (line_at n) number_script c ≡ record { events = number_slots ++ es; told = told; bytes = [] }
   ends {rs} {es} {told} g h = runs_on (next n) (line_at n) c ((number-runs number ok.eight small).run rs es told [] h) (bus-hears n (draws then g)).replies
 
-  does : (crc family : Bool) → crc8Agrees number ≡ crc → familyAgrees number ≡ family
-      → playOn (next n) (line_at n) numberScript c ≡ record { events = numberEventsFor number; told = numberVerdict number; bytes = [] }
-  unfolding bitsOfBytes bits_of
+  does : (crc family : Bool) → crc8_agrees number ≡ crc → family_agrees number ≡ family
+      → play_on (next n) (line_at n) number_script c ≡ record { events = number_events_for number; told = number_verdict number; bytes = [] }
+  unfolding bits_of_bytes bits_of
   does false family e f = simp e (ends stays (simp e stopped))
   does true false e f = simp (e, f) (ends stays (simp (e, f) stopped))
-  does true true e f = simp (e, f) (ends (resets n whole (c at awaitingMemory) (ready n whole ok draws)) (simp (e, f) (sent given)))
+  does true true e f = simp (e, f) (ends (resets n whole (c at awaiting_memory) (ready n whole ok draws)) (simp (e, f) (sent given)))
 
-  pub number-joined : (replies : List Bool) → Good (next n) (line_at n) out_of c (numberAnswersTo numberBegun replies) replies
-      → numberAnswersTo numberBegun replies ≡ telling (numberEventsFor number) (numberVerdict number) (length replies)
+  pub number-joined : (replies : List Bool) → Good (next n) (line_at n) out_of c (number_answers_to number_begun replies) replies
+      → number_answers_to number_begun replies ≡ telling (number_events_for number) (number_verdict number) (length replies)
   number-joined replies good =
-      let d = does (crc8Agrees number) (familyAgrees number) refl refl in
-      script-laws.on-bus (next n) (line_at n) numberState numberAnswer number-plays c replies good
+      let d = does (crc8_agrees number) (family_agrees number) refl refl in
+      script-laws.on-bus (next n) (line_at n) number_state number_answer number-plays c replies good
       ∙ ap (λ (p : Played). telling p.events p.told (length replies)) d

@@ -6,25 +6,25 @@ use mathlib.Core.Path.{◌≡◌, refl, ap, ◌∙◌}
 use native.Mathlib.Omega.{arith}
 use lib.ListN.{set, replicate}
 use borrow.Author.Tests.{lt-ltb}
-use Rattle.base_types.specs.Bits.{shiftIn, bits_of, bitsOfBytes}
+use Rattle.base_types.specs.Bits.{shift_in, bits_of, bits_of_bytes}
 use Rattle.base_types.specs.Refusal.{number_of, values_of}
 use Rattle.base_types.proofs.Collect.{byte-held}
 use Rattle.base_types.proofs.Values.{value_of}
-use Rattle.bus_scripts.specs.Script.{Script, stops, gives, check, reset, sendBits, sendBytes, readByte, play}
+use Rattle.bus_scripts.specs.Script.{Script, stops, gives, check, reset, send_bits, send_bytes, read_byte, play}
 use Rattle.bus_scripts.proofs.Follows.{Follows, sending, stopping, giving, resetting, checking, receiving, receiving-bytes, plays-from}
 use Rattle.master_number.specs.declared.Phase.{Phase}
 use Rattle.master_number.specs.declared.Phase.TheVariants.{Presence, Command, Receive, Closing, Stopped}
 use Rattle.master_number.specs.declared.NumberStop.{NumberStop}
 use Rattle.master_number.specs.declared.NumberStop.TheVariants.{NoPresence, Crc8, Family}
 use Rattle.master_number.specs.declared.NumberRead.{NumberRead}
-use Rattle.master_number.specs.Number.{numberStop}
-use Rattle.master_number_laws.specs.Script.{crc8Agrees, familyAgrees}
-use Rattle.master_number.specs.Code.NumberSteps.{numberPresence, afterReadRom, familyJudged, crcJudged, numberByteIn, numberBitIn, numberClosed}
-use Rattle.master_number.specs.Code.NumberSteps.{numberNextAt, numberNext, numberPhaseAnswer}
-use Rattle.master_number.specs.NumberRead.{numberBegun, numberAnswer, numberState}
-use Rattle.master_number_laws.specs.Laws.{numberAnswersTo}
-use Rattle.master_number_laws.specs.Script.{numberScript}
-use Rattle.master_number_laws.proofs.Ranges.{NumberFit, numberShown, number-starts, fit-step, state-is, answer-is}
+use Rattle.master_number.specs.Number.{number_stop}
+use Rattle.master_number_laws.specs.Script.{crc8_agrees, family_agrees}
+use Rattle.master_number.specs.Code.NumberSteps.{number_presence, after_read_rom, family_judged, crc_judged, number_byte_in, number_bit_in, number_closed}
+use Rattle.master_number.specs.Code.NumberSteps.{number_next_at, number_next, number_phase_answer}
+use Rattle.master_number.specs.NumberRead.{number_begun, number_answer, number_state}
+use Rattle.master_number_laws.specs.Laws.{number_answers_to}
+use Rattle.master_number_laws.specs.Script.{number_script}
+use Rattle.master_number_laws.proofs.Ranges.{NumberFit, number_shown, number-starts, fit-step, state-is, answer-is}
 
 infixl 25 ◌having◌
 abbrev ◌having◌ : Phase → List ℕ → NumberRead
@@ -32,64 +32,64 @@ phase having bytes = record { phase = phase; bytes = bytes }
 
 -- the number read hands no bytes over
 abbrev NumberFollows : NumberRead → Script → Type 0
-NumberFollows s script = Follows numberNext numberShown (λ (_ : NumberRead). []) s script
+NumberFollows s script = Follows number_next number_shown (λ (_ : NumberRead). []) s script
 
 -- a state that has stopped
-halted : (cause : NumberStop) (bytes : List ℕ) → NumberFollows (Stopped cause having bytes) (stops (number_of (numberStop cause)) (values_of (numberStop cause)))
-unfolding numberNextAt numberPhaseAnswer
+halted : (cause : NumberStop) (bytes : List ℕ) → NumberFollows (Stopped cause having bytes) (stops (number_of (number_stop cause)) (values_of (number_stop cause)))
+unfolding number_next_at number_phase_answer
 halted cause bytes = stopping refl refl (λ r. refl)
 
 -- ---- one byte
 
-bit-next : (left k v : ℕ) (bytes : List ℕ) (r : Bool) → numberNext (Receive k (suc (suc left)) v having bytes) r ≡ Receive k (suc left) (shiftIn v r) having bytes
-unfolding numberNextAt numberBitIn
+bit-next : (left k v : ℕ) (bytes : List ℕ) (r : Bool) → number_next (Receive k (suc (suc left)) v having bytes) r ≡ Receive k (suc left) (shift_in v r) having bytes
+unfolding number_next_at number_bit_in
 bit-next left k v bytes r = let e : suc (suc left) - 1 ≡ suc left = omega arith in simp (lt-ltb 1 (suc (suc left)) (omega arith), e)
 
-byte-in : (k : ℕ) (bytes : List ℕ) (on : ℕ → Script) → ((v : ℕ) → NumberFollows (numberByteIn (Presence having set bytes k v) k) (on v))
-    → NumberFollows (Receive k 8 0 having bytes) (readByte on)
-unfolding numberNextAt numberBitIn numberPhaseAnswer numberByteIn crcJudged familyJudged
+byte-in : (k : ℕ) (bytes : List ℕ) (on : ℕ → Script) → ((v : ℕ) → NumberFollows (number_byte_in (Presence having set bytes k v) k) (on v))
+    → NumberFollows (Receive k 8 0 having bytes) (read_byte on)
+unfolding number_next_at number_bit_in number_phase_answer number_byte_in crc_judged family_judged
 byte-in k bytes on f =
-    receiving 128 (λ left v. Receive k left v having bytes) (λ v. numberByteIn (Presence having set bytes k v) k) (λ left v. refl) (λ left v. refl)
+    receiving 128 (λ left v. Receive k left v having bytes) (λ v. number_byte_in (Presence having set bytes k v) k) (λ left v. refl) (λ left v. refl)
     (λ left v r. bit-next left k v bytes r) (λ v r. refl) 7 0 on (λ bs l. rw (byte-held bs l) (f (value_of bs)))
 
 byte_more : (k : ℕ) (bytes : List ℕ) (on : ℕ → Script) → k < 7 → ((v : ℕ) → NumberFollows (Receive (k + 1) 8 0 having set bytes k v) (on v))
-    → NumberFollows (Receive k 8 0 having bytes) (readByte on)
-unfolding numberByteIn
+    → NumberFollows (Receive k 8 0 having bytes) (read_byte on)
+unfolding number_byte_in
 byte_more k bytes on l f = byte-in k bytes on (λ v. simp (lt-ltb k 7 l) (f v))
 
-byte_last : (bytes : List ℕ) (on : ℕ → Script) → ((v : ℕ) → NumberFollows (crcJudged (Presence having set bytes 7 v)) (on v)) → NumberFollows (Receive 7 8 0 having bytes) (readByte on)
-unfolding numberByteIn
+byte_last : (bytes : List ℕ) (on : ℕ → Script) → ((v : ℕ) → NumberFollows (crc_judged (Presence having set bytes 7 v)) (on v)) → NumberFollows (Receive 7 8 0 having bytes) (read_byte on)
+unfolding number_byte_in
 byte_last bytes on f = byte-in 7 bytes on f
 
 -- ---- the number is judged, and the closing reset
 
 closes : (bytes : List ℕ) → NumberFollows (Closing having bytes) (reset (gives bytes []))
-unfolding numberNextAt numberClosed numberPhaseAnswer
+unfolding number_next_at number_closed number_phase_answer
 closes bytes = resetting refl refl (halted NoPresence bytes) (giving refl refl (λ r. refl) refl refl (λ r. refl))
 
-judges : (number : List ℕ) → NumberFollows (crcJudged (Presence having number)) (check (crc8Agrees number) 14 (check (familyAgrees number) 15 (reset (gives number []))))
-unfolding crcJudged familyJudged
+judges : (number : List ℕ) → NumberFollows (crc_judged (Presence having number)) (check (crc8_agrees number) 14 (check (family_agrees number) 15 (reset (gives number []))))
+unfolding crc_judged family_judged
 judges number =
-    checking (λ s. s) (crc8Agrees number)
-    (λ _. checking (λ s. s) (familyAgrees number) (λ _. closes number) (λ _. halted Family number)) (λ _. halted Crc8 number)
+    checking (λ s. s) (crc8_agrees number)
+    (λ _. checking (λ s. s) (family_agrees number) (λ _. closes number) (λ _. halted Family number)) (λ _. halted Crc8 number)
 
 -- ---- from the first reset on
 
-commands : (bytes : List ℕ) (on : Script) → NumberFollows (Receive 0 8 0 having bytes) on → NumberFollows (Command 0 having bytes) (sendBytes (0x33 ∷ []) on)
-unfolding numberNextAt afterReadRom numberPhaseAnswer bitsOfBytes bits_of sendBits
+commands : (bytes : List ℕ) (on : Script) → NumberFollows (Receive 0 8 0 having bytes) on → NumberFollows (Command 0 having bytes) (send_bytes (0x33 ∷ []) on)
+unfolding number_next_at after_read_rom number_phase_answer bits_of_bytes bits_of send_bits
 commands bytes on f =
     sending refl refl (λ _. sending refl refl (λ _. sending refl refl (λ _. sending refl refl (λ _. sending refl refl (λ _. sending refl refl (λ _. sending refl
     refl (λ _. sending refl refl (λ _. f))))))))
 
-opens : (r : Bool) → NumberFollows (numberNext numberBegun r) numberScript
-unfolding numberScript numberNextAt numberPresence numberPhaseAnswer
+opens : (r : Bool) → NumberFollows (number_next number_begun r) number_script
+unfolding number_script number_next_at number_presence number_phase_answer
 opens r =
     resetting refl refl (halted NoPresence (replicate 8 0))
-    (commands (replicate 8 0) _ (receiving-bytes 7 (λ k bytes. Receive k 8 0 having bytes) (λ bytes. crcJudged (Presence having bytes)) byte_more byte_last
+    (commands (replicate 8 0) _ (receiving-bytes 7 (λ k bytes. Receive k 8 0 having bytes) (λ bytes. crc_judged (Presence having bytes)) byte_more byte_last
     (replicate 8 0) _ refl (λ number l. judges number)))
 
-pub number-plays : (replies : List Bool) → numberAnswersTo numberBegun replies ≡ play numberScript replies
+pub number-plays : (replies : List Bool) → number_answers_to number_begun replies ≡ play number_script replies
 number-plays replies =
-    plays-from numberState numberAnswer (λ c s. (c ≡ s) × NumberFit s)
-    (λ c s r v. (ap (λ (x : NumberRead). numberState x r) v.0 ∙ state-is s r v.1, fit-step s r v.1))
-    (λ c s r v. ap (λ (x : NumberRead). numberAnswer x r) v.0 ∙ answer-is s r v.1) replies numberBegun numberBegun (λ _. numberScript) (refl, number-starts) opens
+    plays-from number_state number_answer (λ c s. (c ≡ s) × NumberFit s)
+    (λ c s r v. (ap (λ (x : NumberRead). number_state x r) v.0 ∙ state-is s r v.1, fit-step s r v.1))
+    (λ c s r v. ap (λ (x : NumberRead). number_answer x r) v.0 ∙ answer-is s r v.1) replies number_begun number_begun (λ _. number_script) (refl, number-starts) opens

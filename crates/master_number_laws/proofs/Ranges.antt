@@ -19,26 +19,26 @@ use Rattle.master_number.specs.declared.Phase.TheVariants.{Begin, Presence, Comm
 use Rattle.master_number.specs.declared.NumberStop.{NumberStop}
 use Rattle.master_number.specs.declared.NumberStop.TheVariants.{NoPresence, Crc8, Family}
 use Rattle.master_number.specs.declared.NumberRead.{NumberRead}
-use Rattle.master_number.specs.Number.{numberStop}
-use Rattle.master_number_laws.specs.Script.{crc8Agrees, familyAgrees}
-use Rattle.master_number.specs.Code.NumberSteps.{numberPresence, afterReadRom, familyJudged, crcJudged, numberByteIn, numberBitIn, numberClosed}
-use Rattle.master_number.specs.Code.NumberSteps.{numberNextAt, numberNext, numberPhaseAnswer}
-use Rattle.master_number.specs.NumberRead.{answerOutcome, numberReceiveInRange, is_number, numberPhaseInRange, numberInRange, numberBegun, numberAnswer, numberState}
+use Rattle.master_number.specs.Number.{number_stop}
+use Rattle.master_number_laws.specs.Script.{crc8_agrees, family_agrees}
+use Rattle.master_number.specs.Code.NumberSteps.{number_presence, after_read_rom, family_judged, crc_judged, number_byte_in, number_bit_in, number_closed}
+use Rattle.master_number.specs.Code.NumberSteps.{number_next_at, number_next, number_phase_answer}
+use Rattle.master_number.specs.NumberRead.{answer_outcome, number_receive_in_range, is_number, number_phase_in_range, number_in_range, number_begun, number_answer, number_state}
 use Rattle.master_number_laws.specs.Ranges.{Sound, NumberListed}
 
 -- ---- the list
 
 sound : (bytes : List ℕ) → (is_number bytes ≡ true) ↔ Sound bytes
 unfolding is_number
-sound bytes = (λ h. let b = both (crc8Agrees bytes) (familyAgrees bytes) h in record { crc = b.0; family = b.1 }, λ s. simp (s.crc, s.family))
+sound bytes = (λ h. let b = both (crc8_agrees bytes) (family_agrees bytes) h in record { crc = b.0; family = b.1 }, λ s. simp (s.crc, s.family))
 
-stop-numbers : (cause : NumberStop) → among (number_of (numberStop cause)) (13 ∷ 14 ∷ 15 ∷ []) ≡ true
+stop-numbers : (cause : NumberStop) → among (number_of (number_stop cause)) (13 ∷ 14 ∷ 15 ∷ []) ≡ true
 stop-numbers NoPresence = refl
 stop-numbers Crc8 = refl
 stop-numbers Family = refl
 
-phase-is : (phase : Phase) (bytes : List ℕ) → (numberPhaseInRange phase bytes ≡ true) ↔ NumberListed phase bytes
-unfolding numberPhaseInRange numberReceiveInRange
+phase-is : (phase : Phase) (bytes : List ℕ) → (number_phase_in_range phase bytes ≡ true) ↔ NumberListed phase bytes
+unfolding number_phase_in_range number_receive_in_range
 phase-is Begin bytes = (λ h. tt, λ l. refl)
 phase-is Presence bytes = (λ h. tt, λ l. refl)
 phase-is (Command i) bytes = (λ h. omega (arith, ltb-true i 8 h), λ l. lt-ltb i 8 (omega arith))
@@ -50,33 +50,33 @@ phase-is Closing bytes = sound bytes
 phase-is Done bytes = sound bytes
 phase-is (Stopped cause) bytes = (λ h. stop-numbers cause, λ l. refl)
 
-pub number-listed : (s : NumberRead) → (numberInRange s ≡ true) ↔ NumberListed s.phase s.bytes
+pub number-listed : (s : NumberRead) → (number_in_range s ≡ true) ↔ NumberListed s.phase s.bytes
 number-listed s = phase-is s.phase s.bytes
 
 -- ---- calls
 
 abbrev pub NumberFit : NumberRead → Type 0
-NumberFit s = numberInRange s ≡ true
+NumberFit s = number_in_range s ≡ true
 
 -- what is told on the way into a state
-abbrev pub numberShown : NumberRead → Outcome Next
-numberShown s = answerOutcome (numberPhaseAnswer s.phase) s.bytes
+abbrev pub number_shown : NumberRead → Outcome Next
+number_shown s = answer_outcome (number_phase_answer s.phase) s.bytes
 
-pub number-starts : NumberFit numberBegun
-unfolding numberPhaseInRange
+pub number-starts : NumberFit number_begun
+unfolding number_phase_in_range
 number-starts = refl
 
-judged-fit : (s : NumberRead) → NumberFit (crcJudged s)
-unfolding crcJudged familyJudged numberPhaseInRange is_number
-judged-fit s = either NumberFit (crc8Agrees s.bytes) _ _ (λ c. either NumberFit (familyAgrees s.bytes) _ _ (λ f. simp (c, f)) (λ _. refl)) (λ _. refl)
+judged-fit : (s : NumberRead) → NumberFit (crc_judged s)
+unfolding crc_judged family_judged number_phase_in_range is_number
+judged-fit s = either NumberFit (crc8_agrees s.bytes) _ _ (λ c. either NumberFit (family_agrees s.bytes) _ _ (λ f. simp (c, f)) (λ _. refl)) (λ _. refl)
 
-next-fit : (phase : Phase) (s : NumberRead) (r : Bool) → numberPhaseInRange phase s.bytes ≡ true → NumberFit s → NumberFit (numberNextAt phase s r)
-unfolding numberNextAt numberPresence afterReadRom numberByteIn numberBitIn numberClosed numberPhaseInRange numberReceiveInRange
+next-fit : (phase : Phase) (s : NumberRead) (r : Bool) → number_phase_in_range phase s.bytes ≡ true → NumberFit s → NumberFit (number_next_at phase s r)
+unfolding number_next_at number_presence after_read_rom number_byte_in number_bit_in number_closed number_phase_in_range number_receive_in_range
 next-fit Begin s r h f = refl
 next-fit Presence s true h f = refl
 next-fit Presence s false h f = refl
 next-fit (Command i) s r h f =
-    either (λ (p : Phase). numberPhaseInRange p s.bytes ≡ true) (ltb i 7) _ _ (λ t. lt-ltb (i + 1) 8 (omega (arith, ltb-true i 7 t))) (λ _. refl)
+    either (λ (p : Phase). number_phase_in_range p s.bytes ≡ true) (ltb i 7) _ _ (λ t. lt-ltb (i + 1) 8 (omega (arith, ltb-true i 7 t))) (λ _. refl)
 next-fit (Receive k left v) s r h f =
     either NumberFit (ltb 1 left) _ _ (λ t. one_less 8 (ltb k 8) left (ltb-true 1 left t) h)
     (λ _. either NumberFit (ltb k 7) _ _ (λ t. lt-ltb (k + 1) 8 (omega (arith, ltb-true k 7 t))) (λ _. judged-fit _))
@@ -85,28 +85,28 @@ next-fit Closing s false h f = h
 next-fit Done s r h f = f
 next-fit (Stopped cause) s r h f = f
 
-pub fit-step : (s : NumberRead) (r : Bool) → NumberFit s → NumberFit (numberNext s r)
+pub fit-step : (s : NumberRead) (r : Bool) → NumberFit s → NumberFit (number_next s r)
 fit-step s r h = next-fit s.phase s r h h
 
-pub state-is : (s : NumberRead) (r : Bool) → NumberFit s → numberState s r ≡ numberNext s r
-unfolding numberState
+pub state-is : (s : NumberRead) (r : Bool) → NumberFit s → number_state s r ≡ number_next s r
+unfolding number_state
 state-is s r f = simp f
 
-pub answer-is : (s : NumberRead) (r : Bool) → NumberFit s → numberAnswer s r ≡ numberShown (numberNext s r)
-unfolding numberAnswer
+pub answer-is : (s : NumberRead) (r : Bool) → NumberFit s → number_answer s r ≡ number_shown (number_next s r)
+unfolding number_answer
 answer-is s r f = simp f
 
-pub number-keeps : (s : NumberRead) (reply : Bool) → NumberFit s → NumberFit (numberState s reply)
+pub number-keeps : (s : NumberRead) (reply : Bool) → NumberFit s → NumberFit (number_state s reply)
 number-keeps s reply f = rw (state-is s reply f) (fit-step s reply f)
 
 -- ---- number 2
 
-pub number-outside : (s : NumberRead) (reply : Bool) → numberInRange s ≡ false → (numberAnswer s reply ≡ refused 2 []) × (numberState s reply ≡ s)
-unfolding numberAnswer numberState
+pub number-outside : (s : NumberRead) (reply : Bool) → number_in_range s ≡ false → (number_answer s reply ≡ refused 2 []) × (number_state s reply ≡ s)
+unfolding number_answer number_state
 number-outside s reply h = (simp h, simp h)
 
-not-2 : (phase : Phase) (bytes values : List ℕ) → answerOutcome (numberPhaseAnswer phase) bytes ≡ refused 2 values → ⊥
-unfolding numberPhaseAnswer
+not-2 : (phase : Phase) (bytes values : List ℕ) → answer_outcome (number_phase_answer phase) bytes ≡ refused 2 values → ⊥
+unfolding number_phase_answer
 not-2 Begin bytes values e = let z : ◌≡◌ {A = ℕ} 0 1 = cc in omega arith
 not-2 Presence bytes values e = let z : ◌≡◌ {A = ℕ} 0 1 = cc in omega arith
 not-2 (Command i) bytes values e = let z : ◌≡◌ {A = ℕ} 0 1 = cc in omega arith
@@ -117,5 +117,5 @@ not-2 (Stopped NoPresence) bytes values e = let z : ◌≡◌ {A = ℕ} 13 2 = c
 not-2 (Stopped Crc8) bytes values e = let z : ◌≡◌ {A = ℕ} 14 2 = cc in omega arith
 not-2 (Stopped Family) bytes values e = let z : ◌≡◌ {A = ℕ} 15 2 = cc in omega arith
 
-pub number-never-2 : (s : NumberRead) (reply : Bool) (values : List ℕ) → numberInRange s ≡ true → numberAnswer s reply ≡ refused 2 values → ⊥
-number-never-2 s reply values h e = not-2 (numberNext s reply).phase (numberNext s reply).bytes values (sym (answer-is s reply h) ∙ e)
+pub number-never-2 : (s : NumberRead) (reply : Bool) (values : List ℕ) → number_in_range s ≡ true → number_answer s reply ≡ refused 2 values → ⊥
+number-never-2 s reply values h e = not-2 (number_next s reply).phase (number_next s reply).bytes values (sym (answer-is s reply h) ∙ e)

@@ -4,13 +4,13 @@ use Rattle.base_types.specs.Refusal.{number_of}
 use Rattle.bus_scripts.specs.Ranges.{among, StillOut}
 use Rattle.master_number.specs.declared.Phase.{Phase}
 use Rattle.master_number.specs.declared.Phase.TheVariants.{Begin, Presence, Command, Receive, Closing, Done, Stopped}
-use Rattle.master_number.specs.Number.{numberStop}
-use Rattle.master_number_laws.specs.Script.{crc8Agrees, familyAgrees}
+use Rattle.master_number.specs.Number.{number_stop}
+use Rattle.master_number_laws.specs.Script.{crc8_agrees, family_agrees}
 
 -- bytes that a read accepts
 pub record Sound (bytes : List ℕ) : Type 0 where
-  pub crc : crc8Agrees bytes ≡ true
-  pub family : familyAgrees bytes ≡ true
+  pub crc : crc8_agrees bytes ≡ true
+  pub family : family_agrees bytes ≡ true
 
 -- a phase, with the bytes of the state
 abbrev pub NumberListed : Phase → List ℕ → Type 0
@@ -20,4 +20,4 @@ NumberListed (Command i) bytes = i ≤ 7
 NumberListed (Receive k left register) bytes = (k ≤ 7) × StillOut left 8
 NumberListed Closing bytes = Sound bytes
 NumberListed Done bytes = Sound bytes
-NumberListed (Stopped cause) bytes = among (number_of (numberStop cause)) (13 ∷ 14 ∷ 15 ∷ []) ≡ true
+NumberListed (Stopped cause) bytes = among (number_of (number_stop cause)) (13 ∷ 14 ∷ 15 ∷ []) ≡ true

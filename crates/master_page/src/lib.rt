@@ -3,14 +3,14 @@
 // The state says which event was last sent, so a call's answer is a function of the state that the reply leads to. A CRC is computed
 // from the bytes as received when its last bit is in. A chip is known by its last page, 63 for the DS2505.
 ghost use Rattle.std.specs.Prelude.{cond, [], ◌∷◌, ◌++◌, ◌≡◌, ◌*◌, set};
-ghost use Rattle.chip_memory.specs.Layout.{pageCount};
+ghost use Rattle.chip_memory.specs.Layout.{page_count};
 ghost use Rattle.chip_memory.specs.Page.{copied};
-ghost use Rattle.master_page.specs.Page.{addressLow, addressHigh, commandBytes, crcSent, pageStop};
-ghost use Rattle.master_page.specs.Code.PageSteps.{commandByte, commandBit, wordShiftIn, pageWith, pageStopped, pagePresence, afterExtendedRead};
-ghost use Rattle.master_page.specs.Code.PageSteps.{hopped, pageNamed, byteFollowed, redirectionJudged, nextData, pageStored, dataJudged, partIn};
-ghost use Rattle.master_page.specs.Code.PageSteps.{pageBitIn, pageClosed, pageNext, pagePhaseAnswer, finishes};
-ghost use Rattle.master_page.specs.PageRead.{partInRange, part_width, pageReceiveInRange, pageStopInRange, pagePhaseInRange, pageInRange};
-ghost use Rattle.master_page.specs.PageRead.{startOutcome, startAnswer, startState, readOutcome, readAnswer, readState, readBuffer};
+ghost use Rattle.master_page.specs.Page.{address_low, address_high, command_bytes, crc_sent, page_stop};
+ghost use Rattle.master_page.specs.Code.PageSteps.{command_byte, command_bit, word_shift_in, page_with, page_stopped, page_presence, after_extended_read};
+ghost use Rattle.master_page.specs.Code.PageSteps.{hopped, page_named, byte_followed, redirection_judged, next_data, page_stored, data_judged, part_in};
+ghost use Rattle.master_page.specs.Code.PageSteps.{page_bit_in, page_closed, page_next, page_phase_answer, finishes};
+ghost use Rattle.master_page.specs.PageRead.{part_in_range, part_width, page_receive_in_range, page_stop_in_range, page_phase_in_range, page_in_range};
+ghost use Rattle.master_page.specs.PageRead.{start_outcome, start_answer, start_state, read_outcome, read_answer, read_state, read_buffer};
 
 use base_types::address::{DataAddress, Page, Redirection};
 use base_types::bits;
@@ -94,19 +94,19 @@ fn address(p: Page) -> DataAddress
 }
 
 fn address_low(a: DataAddress) -> u8
-    ensures { result ≡ addressLow a.0 }
+    ensures { result ≡ address_low a.0 }
 {
     (a.0 % 256) as u8
 }
 
 fn address_high(a: DataAddress) -> u8
-    ensures { result ≡ addressHigh a.0 }
+    ensures { result ≡ address_high a.0 }
 {
     (a.0 / 256 % 256) as u8
 }
 
 fn command_byte(p: Page, k: u8) -> u8
-    ensures { result ≡ commandByte p.0 k }
+    ensures { result ≡ command_byte p.0 k }
 {
     match k {
         0 => 0xCC,
@@ -117,14 +117,14 @@ fn command_byte(p: Page, k: u8) -> u8
 }
 
 fn command_bit(p: Page, i: u8) -> bool
-    ensures { result ≡ commandBit p.0 i }
+    ensures { result ≡ command_bit p.0 i }
 {
     bits::at(command_byte(p, i >> 3), i)
 }
 
 // The CRC that follows the redirection byte of page p, as it is sent.
 fn redirection_crc(p: Page, b: Redirection) -> u16
-    ensures { result ≡ crcSent (commandBytes p.0 ++ (b.0 ∷ [])) }
+    ensures { result ≡ crc_sent (command_bytes p.0 ++ (b.0 ∷ [])) }
 {
     let a = address(p);
     let sent = [0xA5, address_low(a), address_high(a), b.0];
@@ -133,7 +133,7 @@ fn redirection_crc(p: Page, b: Redirection) -> u16
 
 // The one that follows a page's bytes.
 fn data_crc(bytes: [u8; 32]) -> u16
-    ensures { result ≡ crcSent bytes }
+    ensures { result ≡ crc_sent bytes }
 {
     base_crc::crc16::word(chip_memory::page::crc(&bytes))
 }
@@ -142,13 +142,13 @@ fn data_crc(bytes: [u8; 32]) -> u16
 
 // The register that collects what is received: the newest bit on top.
 fn shift_in(v: u16, bit: bool) -> u16
-    ensures { result ≡ wordShiftIn v bit }
+    ensures { result ≡ word_shift_in v bit }
 {
     if bit { (v >> 1) | 0x8000 } else { v >> 1 }
 }
 
 fn with_phase(s: PageRead, phase: Phase) -> PageRead
-    ensures { result ≡ pageWith s phase }
+    ensures { result ≡ page_with s phase }
 {
     let page = s.page;
     let bytes = s.bytes;
@@ -161,13 +161,13 @@ fn with_phase(s: PageRead, phase: Phase) -> PageRead
 }
 
 fn stop(s: PageRead, cause: PageStop) -> PageRead
-    ensures { result ≡ pageStopped s cause }
+    ensures { result ≡ page_stopped s cause }
 {
     with_phase(s, Phase::Stopped(cause))
 }
 
 fn present(s: PageRead, reply: bool) -> PageRead
-    ensures { result ≡ pagePresence s reply }
+    ensures { result ≡ page_presence s reply }
 {
     if reply {
         stop(s, PageStop::NoPresence)
@@ -177,7 +177,7 @@ fn present(s: PageRead, reply: bool) -> PageRead
 }
 
 fn after_command(i: u8) -> Phase
-    ensures { result ≡ afterExtendedRead i }
+    ensures { result ≡ after_extended_read i }
 {
     if i < 31 {
         Phase::Command(i + 1)
@@ -188,7 +188,7 @@ fn after_command(i: u8) -> Phase
 
 // On to page x; but as many hops as there are other pages are the last.
 fn hop(last: Page, s: PageRead, x: Page) -> PageRead
-    ensures { result ≡ hopped (pageCount last) s x.0 }
+    ensures { result ≡ hopped (page_count last) s x.0 }
 {
     let hops = s.hops;
     let bytes = s.bytes;
@@ -205,7 +205,7 @@ fn hop(last: Page, s: PageRead, x: Page) -> PageRead
 }
 
 fn go_on(last: Page, s: PageRead, x: Page) -> PageRead
-    ensures { result ≡ pageNamed (pageCount last) s x.0 }
+    ensures { result ≡ page_named (page_count last) s x.0 }
 {
     if layout::is_page(last, x) {
         hop(last, s, x)
@@ -216,7 +216,7 @@ fn go_on(last: Page, s: PageRead, x: Page) -> PageRead
 
 // A redirection byte whose CRC agreed.
 fn follow(last: Page, s: PageRead, b: Redirection) -> PageRead
-    ensures { result ≡ byteFollowed (pageCount last) s b.0 }
+    ensures { result ≡ byte_followed (page_count last) s b.0 }
 {
     if b.0 == 0xFF {
         with_phase(s, Phase::Receive(Part::Data(0), 8, 0))
@@ -226,7 +226,7 @@ fn follow(last: Page, s: PageRead, b: Redirection) -> PageRead
 }
 
 fn judge(last: Page, s: PageRead, b: Redirection, v: u16) -> PageRead
-    ensures { result ≡ redirectionJudged (pageCount last) s b.0 v }
+    ensures { result ≡ redirection_judged (page_count last) s b.0 v }
 {
     let page = s.page;
     if v == redirection_crc(page, b) {
@@ -237,7 +237,7 @@ fn judge(last: Page, s: PageRead, b: Redirection, v: u16) -> PageRead
 }
 
 fn next_data(k: u8) -> Phase
-    ensures { result ≡ nextData k }
+    ensures { result ≡ next_data k }
 {
     if k < 31 {
         Phase::Receive(Part::Data(k + 1), 8, 0)
@@ -260,7 +260,7 @@ fn store(bytes: [u8; 32], k: u8, v: u8) -> [u8; 32]
 }
 
 fn keep(s: PageRead, k: u8, v: u8) -> PageRead
-    ensures { result ≡ pageStored s k v }
+    ensures { result ≡ page_stored s k v }
 {
     let page = s.page;
     let old = s.bytes;
@@ -274,7 +274,7 @@ fn keep(s: PageRead, k: u8, v: u8) -> PageRead
 }
 
 fn judge_data(s: PageRead, v: u16) -> PageRead
-    ensures { result ≡ dataJudged s v }
+    ensures { result ≡ data_judged s v }
 {
     let bytes = s.bytes;
     if v == data_crc(bytes) {
@@ -286,7 +286,7 @@ fn judge_data(s: PageRead, v: u16) -> PageRead
 
 // All bits of a part are in. Those of a byte stand in the register's high half.
 fn part_in(last: Page, s: PageRead, part: Part, v: u16) -> PageRead
-    ensures { result ≡ partIn (pageCount last) s part v }
+    ensures { result ≡ part_in (page_count last) s part v }
 {
     match part {
         Part::Redirection => {
@@ -300,7 +300,7 @@ fn part_in(last: Page, s: PageRead, part: Part, v: u16) -> PageRead
 }
 
 fn bit_in(last: Page, s: PageRead, part: Part, left: u8, v: u16) -> PageRead
-    ensures { result ≡ pageBitIn (pageCount last) s part left v }
+    ensures { result ≡ page_bit_in (page_count last) s part left v }
 {
     if 1 < left {
         with_phase(s, Phase::Receive(part, left - 1, v))
@@ -310,7 +310,7 @@ fn bit_in(last: Page, s: PageRead, part: Part, left: u8, v: u16) -> PageRead
 }
 
 fn close(s: PageRead, reply: bool) -> PageRead
-    ensures { result ≡ pageClosed s reply }
+    ensures { result ≡ page_closed s reply }
 {
     if reply {
         stop(s, PageStop::NoPresence)
@@ -320,7 +320,7 @@ fn close(s: PageRead, reply: bool) -> PageRead
 }
 
 fn take(last: Page, s: PageRead, reply: bool) -> PageRead
-    ensures { result ≡ pageNext (pageCount last) s reply }
+    ensures { result ≡ page_next (page_count last) s reply }
 {
     let phase = s.phase;
     match phase {
@@ -338,7 +338,7 @@ fn take(last: Page, s: PageRead, reply: bool) -> PageRead
 
 // The refusal that a stopped read tells.
 pub fn refusal_for(cause: PageStop) -> Refusal
-    ensures { result ≡ pageStop cause }
+    ensures { result ≡ page_stop cause }
 {
     match cause {
         PageStop::PageNumber => Refusal::PageNumber,
@@ -350,7 +350,7 @@ pub fn refusal_for(cause: PageStop) -> Refusal
 }
 
 fn answer_for(phase: Phase, page: Page, hops: u8) -> Answer
-    ensures { result ≡ pagePhaseAnswer phase page hops }
+    ensures { result ≡ page_phase_answer phase page hops }
 {
     match phase {
         Phase::Begin => Answer::Send(bus_events::reset()),
@@ -366,7 +366,7 @@ fn answer_for(phase: Phase, page: Page, hops: u8) -> Answer
 // ---- ranges
 
 fn part_in_range(part: Part) -> bool
-    ensures { result ≡ partInRange part }
+    ensures { result ≡ part_in_range part }
 {
     match part {
         Part::Redirection => true,
@@ -389,7 +389,7 @@ fn width(part: Part) -> u8
 }
 
 fn receive_in_range(part: Part, left: u8) -> bool
-    ensures { result ≡ pageReceiveInRange part left }
+    ensures { result ≡ page_receive_in_range part left }
 {
     if left < 1 {
         return false;
@@ -401,7 +401,7 @@ fn receive_in_range(part: Part, left: u8) -> bool
 }
 
 fn stop_in_range(last: Page, cause: PageStop) -> bool
-    ensures { result ≡ pageStopInRange (pageCount last) cause }
+    ensures { result ≡ page_stop_in_range (page_count last) cause }
 {
     match cause {
         PageStop::PageNumber => true,
@@ -413,7 +413,7 @@ fn stop_in_range(last: Page, cause: PageStop) -> bool
 }
 
 fn phase_in_range(last: Page, phase: Phase) -> bool
-    ensures { result ≡ pagePhaseInRange (pageCount last) phase }
+    ensures { result ≡ page_phase_in_range (page_count last) phase }
 {
     match phase {
         Phase::Begin => true,
@@ -428,7 +428,7 @@ fn phase_in_range(last: Page, phase: Phase) -> bool
 
 // Whether a state is within its ranges; one that is not draws 2.
 pub fn in_range(last: Page, s: PageRead) -> bool
-    ensures { result ≡ pageInRange (pageCount last) s }
+    ensures { result ≡ page_in_range (page_count last) s }
 {
     let phase = s.phase;
     let page = s.page;
@@ -445,8 +445,8 @@ pub fn in_range(last: Page, s: PageRead) -> bool
 
 // The start takes the page alone and gives a state and no event. Refused: 3; the state then repeats that.
 pub fn start(page: Page) -> Started
-    ensures answer { startOutcome result.answer ≡ startAnswer 64 page.0 }
-    ensures state { result.state ≡ startState 64 page.0 }
+    ensures answer { start_outcome result.answer ≡ start_answer 64 page.0 }
+    ensures state { result.state ≡ start_state 64 page.0 }
 {
     if !layout::is_page(Page(layout::DS2505), page) {
         return Started {
@@ -496,9 +496,9 @@ fn deliver(told: bool, bytes: [u8; 32], buffer: &mut [u8])
 // A later call takes the reply to the last event and gives the next one, or an end, which it repeats when asked again. The buffer is
 // written in the one call that first tells Final. Refused: 2 and 10, with the same state; 13, 6, 4, 5, with the stopped state.
 pub fn call(state: PageRead, reply: bool, buffer: &mut [u8]) -> Stepped
-    ensures answer { readOutcome result.answer ≡ readAnswer 64 state reply buffer.old }
-    ensures state { result.state ≡ readState 64 state reply buffer.old }
-    ensures buffer { buffer.new ≡ readBuffer 64 state reply buffer.old }
+    ensures answer { read_outcome result.answer ≡ read_answer 64 state reply buffer.old }
+    ensures state { result.state ≡ read_state 64 state reply buffer.old }
+    ensures buffer { buffer.new ≡ read_buffer 64 state reply buffer.old }
 {
     if !in_range(Page(layout::DS2505), state) {
         return Stepped {

@@ -2,7 +2,7 @@
 use Prim.Native.Nat.{ℕ, ◌%◌, ◌<◌, ◌≤◌}
 use mathlib.Core.Path.{◌≡◌}
 use Rattle.bus_scripts.proofs.Scripts.{script-laws}
-use Rattle.master_page.specs.Held.{pageCalled, pageTold}
+use Rattle.master_page.specs.Held.{page_called, page_told}
 use Rattle.master_page_laws.specs.Laws.{PageLaws}
 use Rattle.master_page_laws.proofs.Ranges.{start-ready, start-refused, page-starts, page-keeps, page-listed, page-outside, other-buffer, page-never-2}
 use Rattle.master_page_laws.proofs.Plays.{page-plays-lent, page-plays, page-leaves}
@@ -28,6 +28,6 @@ page-laws n whole some low =
       at_most = λ p lent replies room. page-at-most n some p lent room replies;
       agreed = λ p lent first replies v before later below room. page-agreed n some p lent room below first replies v before later;
       image-stays = λ c p lent replies room. page-image-stays n some p lent room c replies;
-      plays-on = λ react line p lent b replies room good. script-laws.on-bus react line (pageCalled n) (pageTold n) (page-plays n some p lent room) b replies good;
+      plays-on = λ react line p lent b replies room good. script-laws.on-bus react line (page_called n) (page_told n) (page-plays n some p lent room) b replies good;
       joined = page-joined n whole low some;
     }

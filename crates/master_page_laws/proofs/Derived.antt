@@ -7,163 +7,163 @@ use native.Mathlib.Omega.{arith}
 use lib.Dec.{eqb, ltb}
 use lib.ListN.{length}
 use borrow.Author.Tests.{lt-ltb, eqb-true, eqb-false, ltb-true, ltb-false}
-use Rattle.base_types.specs.Bits.{bits_of, bitsOfBytes}
+use Rattle.base_types.specs.Bits.{bits_of, bits_of_bytes}
 use Rattle.base_types.specs.Outcome.{Outcome, refused, accepted}
 use Rattle.base_types.specs.declared.verdict.Verdict.{Verdict}
 use Rattle.base_types.specs.declared.verdict.Verdict.TheVariants.{Final, Loop, Outside}
 use Rattle.base_types.specs.Verdict.{final, loops, outside}
 use Rattle.bus_events.specs.declared.Event.{Event}
 use Rattle.chip_chain.specs.Walk.{named_by}
-use Rattle.bus_scripts.specs.Next.{Next, tells, out_of, eventsOf}
+use Rattle.bus_scripts.specs.Next.{Next, tells, out_of, events_of}
 use Rattle.bus_scripts.specs.Joint.{quiet}
-use Rattle.bus_scripts.specs.Script.{Script, stops, gives, checkWith, reset, readCrc, play, leftBy}
+use Rattle.bus_scripts.specs.Script.{Script, stops, gives, check_with, reset, read_crc, play, left_by}
 use Rattle.bus_scripts.proofs.Runs.{Runs, stopped-is}
 use Rattle.bus_scripts.proofs.Ended.{told-ended, runs-events, runs-left}
 use Rattle.bus_scripts.proofs.Bounded.{Bounded, stopping, giving, bounded, more-bounded, check-bounded, reset-bounded, send-bounded, read-bounded, bytes-bounded, crc-bounded}
 use Rattle.chip_entries.specs.Run.{Chip, run}
 use Rattle.chip_session_laws.proofs.Unpulsed.{NoPulse, unpulsed}
-use Rattle.master_page_laws.specs.Script.{readCommand, crcWord}
-use Rattle.master_page_laws.specs.Script.{visitScript, finalScript, by_byte, walkScript, pageScript}
-use Rattle.master_page_laws.specs.Heard.{visitEvents, visitReplies, dataEvents, dataReplies, Redirects, Heard, at-final, at-outside, at-loop, at_next}
-use Rattle.master_page.specs.Held.{pageStarted}
-use Rattle.master_page_laws.specs.Laws.{pageAnswersTo, pageAfter, verdictOutcome, PageAgreed, mostEvents}
+use Rattle.master_page_laws.specs.Script.{read_command, crc_word}
+use Rattle.master_page_laws.specs.Script.{visit_script, final_script, by_byte, walk_script, page_script}
+use Rattle.master_page_laws.specs.Heard.{visit_events, visit_replies, data_events, data_replies, Redirects, Heard, at-final, at-outside, at-loop, at_next}
+use Rattle.master_page.specs.Held.{page_started}
+use Rattle.master_page_laws.specs.Laws.{page_answers_to, page_after, verdict_outcome, PageAgreed, most_events}
 use Rattle.master_page_laws.proofs.Blocks.{Verdicts, command-length, visit-passed, final-passed}
 use Rattle.master_page_laws.proofs.Plays.{page-plays, page-leaves}
 
 -- ---- counts
 
-pub visit-counted : (p : ℕ) → length (visitEvents p) ≡ 57
-unfolding bits_of bitsOfBytes
+pub visit-counted : (p : ℕ) → length (visit_events p) ≡ 57
+unfolding bits_of bits_of_bytes
 visit-counted p = refl
 
-pub page-counted : length dataEvents ≡ 273
+pub page-counted : length data_events ≡ 273
 page-counted = refl
 
 -- ---- how many events, and no pulse
 
-final-bounded : (p hops : ℕ) → Bounded NoPulse 273 (finalScript p hops)
-unfolding finalScript
+final-bounded : (p hops : ℕ) → Bounded NoPulse 273 (final_script p hops)
+unfolding final_script
 final-bounded p hops =
-    bytes-bounded (λ bit. refl) 32 (λ bytes. readCrc (crcWord bytes) (reset (gives (p ∷ hops ∷ []) bytes))) 273 (omega arith)
-    (λ bytes. crc-bounded (λ bit. refl) (crcWord bytes) 17 (omega arith) (reset-bounded refl (giving {k = 0})))
+    bytes-bounded (λ bit. refl) 32 (λ bytes. read_crc (crc_word bytes) (reset (gives (p ∷ hops ∷ []) bytes))) 273 (omega arith)
+    (λ bytes. crc-bounded (λ bit. refl) (crc_word bytes) 17 (omega arith) (reset-bounded refl (giving {k = 0})))
 
-visit-bounded : (p k : ℕ) (on : ℕ → Script) → ((byte : ℕ) → Bounded NoPulse k (on byte)) → Bounded NoPulse (57 + k) (visitScript p on)
-unfolding visitScript
+visit-bounded : (p k : ℕ) (on : ℕ → Script) → ((byte : ℕ) → Bounded NoPulse k (on byte)) → Bounded NoPulse (57 + k) (visit_script p on)
+unfolding visit_script
 visit-bounded p k on h =
     let e : suc (56 + k) ≡ 57 + k = omega arith in
-    rw e at (reset-bounded refl (send-bounded (λ bit. refl) (bitsOfBytes (0xCC ∷ readCommand p)) (56 + k) (omega (arith, command-length p))
-    (read-bounded (λ bit. refl) 8 (λ byte. readCrc (crcWord (readCommand p ++ (byte ∷ []))) (on byte)) (24 + k) (omega arith)
-    (λ byte. crc-bounded (λ bit. refl) (crcWord (readCommand p ++ (byte ∷ []))) (16 + k) (omega arith) (h byte)))))
+    rw e at (reset-bounded refl (send-bounded (λ bit. refl) (bits_of_bytes (0xCC ∷ read_command p)) (56 + k) (omega (arith, command-length p))
+    (read-bounded (λ bit. refl) 8 (λ byte. read_crc (crc_word (read_command p ++ (byte ∷ []))) (on byte)) (24 + k) (omega arith)
+    (λ byte. crc-bounded (λ bit. refl) (crc_word (read_command p ++ (byte ∷ []))) (16 + k) (omega arith) (h byte)))))
 
 module _ (n : ℕ) where
   byte-bounded : (p hops k : ℕ) (on : ℕ → Script) (byte : ℕ) → 273 ≤ k → ((named : ℕ) → Bounded NoPulse k (on named)) → Bounded NoPulse k (by_byte n p hops on byte)
   byte-bounded p hops k on byte l h = go (eqb byte 255)
     where
-      go : (t : Bool) → Bounded NoPulse k (cond t (finalScript p hops) (checkWith (ltb (255 - byte) n) 5 ((255 - byte) ∷ []) (on (255 - byte))))
+      go : (t : Bool) → Bounded NoPulse k (cond t (final_script p hops) (check_with (ltb (255 - byte) n) 5 ((255 - byte) ∷ []) (on (255 - byte))))
       go true = more-bounded k l (final-bounded p hops)
       go false = check-bounded (ltb (255 - byte) n) 5 ((255 - byte) ∷ []) (h (255 - byte))
 
-  walk-bounded : (more p hops : ℕ) → Bounded NoPulse (57 * (more + 1) + 273) (walkScript n more p hops)
-  unfolding walkScript
+  walk-bounded : (more p hops : ℕ) → Bounded NoPulse (57 * (more + 1) + 273) (walk_script n more p hops)
+  unfolding walk_script
   walk-bounded zero p hops = visit-bounded p 273 _ (λ byte. byte-bounded p hops 273 (λ named. stops 4 []) byte (omega arith) (λ named. stopping))
   walk-bounded (suc more) p hops =
       let k : ℕ = 57 * (more + 1) + 273 in
       let e : 57 + (57 * (more + 1) + 273) ≡ 57 * (suc more + 1) + 273 = omega arith in
-      rw e at (visit-bounded p k _ (λ byte. byte-bounded p hops k (λ named. walkScript n more named (hops + 1)) byte (omega arith) (λ named. walk-bounded more named (hops + 1))))
+      rw e at (visit-bounded p k _ (λ byte. byte-bounded p hops k (λ named. walk_script n more named (hops + 1)) byte (omega arith) (λ named. walk-bounded more named (hops + 1))))
 
-  page-bounded : 0 < n → (p : ℕ) → Bounded NoPulse (mostEvents n) (pageScript n p)
-  unfolding pageScript
+  page-bounded : 0 < n → (p : ℕ) → Bounded NoPulse (most_events n) (page_script n p)
+  unfolding page_script
   page-bounded some p =
       let e : 57 * (n - 1 + 1) + 273 ≡ 57 * n + 273 = omega arith in
       check-bounded (ltb p n) 3 [] (rw e at (walk-bounded (n - 1) p 0))
 
   -- ---- a verdict that was told
 
-  verdicts : (v : Verdict) → Verdicts (verdictOutcome v)
+  verdicts : (v : Verdict) → Verdicts (verdict_outcome v)
   verdicts (Final p hops) = record { present = λ e. let z : ◌≡◌ {A = ℕ} 0 1 = cc in omega arith; sound = λ e. let z : ◌≡◌ {A = ℕ} 0 1 = cc in omega arith }
   verdicts Loop = record { present = λ e. let z : ◌≡◌ {A = ℕ} 4 13 = cc in omega arith; sound = λ e. let z : ◌≡◌ {A = ℕ} 4 6 = cc in omega arith }
   verdicts (Outside k) = record { present = λ e. let z : ◌≡◌ {A = ℕ} 5 13 = cc in omega arith; sound = λ e. let z : ◌≡◌ {A = ℕ} 5 6 = cc in omega arith }
 
-  quiet-verdict : (v : Verdict) → out_of (verdictOutcome v) ≡ quiet
+  quiet-verdict : (v : Verdict) → out_of (verdict_outcome v) ≡ quiet
   quiet-verdict (Final p hops) = refl
   quiet-verdict Loop = refl
   quiet-verdict (Outside k) = refl
 
   -- a verdict by what is told of it
-  is-final : (v : Verdict) (p hops : ℕ) → verdictOutcome v ≡ accepted (tells (p ∷ hops ∷ [])) → final p hops ≡ v
+  is-final : (v : Verdict) (p hops : ℕ) → verdict_outcome v ≡ accepted (tells (p ∷ hops ∷ [])) → final p hops ≡ v
   is-final (Final q h) p hops e = let a : p ≡ q.0 = cc in let b : hops ≡ h = cc in ap₂ (λ (x y : ℕ). final x y) a b
   is-final Loop p hops e = let z : ◌≡◌ {A = ℕ} 0 1 = cc in absurd (omega arith)
   is-final (Outside k) p hops e = let z : ◌≡◌ {A = ℕ} 0 1 = cc in absurd (omega arith)
 
-  is_loop : (v : Verdict) → verdictOutcome v ≡ refused 4 [] → loops ≡ v
+  is_loop : (v : Verdict) → verdict_outcome v ≡ refused 4 [] → loops ≡ v
   is_loop (Final q h) e = let z : ◌≡◌ {A = ℕ} 0 1 = cc in absurd (omega arith)
   is_loop Loop e = refl
   is_loop (Outside k) e = let z : ◌≡◌ {A = ℕ} 5 4 = cc in absurd (omega arith)
 
-  is-outside : (v : Verdict) (k : ℕ) → verdictOutcome v ≡ refused 5 (k ∷ []) → outside k ≡ v
+  is-outside : (v : Verdict) (k : ℕ) → verdict_outcome v ≡ refused 5 (k ∷ []) → outside k ≡ v
   is-outside (Final q h) k e = let z : ◌≡◌ {A = ℕ} 0 1 = cc in absurd (omega arith)
   is-outside Loop k e = let z : ◌≡◌ {A = ℕ} 4 5 = cc in absurd (omega arith)
   is-outside (Outside j) k e = let z : k ≡ j = cc in cc
 
   module _ (v : Verdict) (handed : List ℕ) (p hops : ℕ) (on : ℕ → Script)
       (further : (ignored : List Bool) (byte : ℕ) (rs : List Bool) (es : List Event) → length ignored ≡ 32 → Redirects byte → named_by byte < n
-      → Runs (on (named_by byte)) rs es (verdictOutcome v) handed → Heard n p hops (visitReplies ignored p byte ++ rs) (visitEvents p ++ es) v handed) where
+      → Runs (on (named_by byte)) rs es (verdict_outcome v) handed → Heard n p hops (visit_replies ignored p byte ++ rs) (visit_events p ++ es) v handed) where
     byte-heard : (final? inside : Bool) (ignored : List Bool) (byte : ℕ) (rs : List Bool) (es : List Event) → length ignored ≡ 32 → byte < 256
         → eqb byte 255 ≡ final? → ltb (255 - byte) n ≡ inside
-        → Runs (cond final? (finalScript p hops) (checkWith inside 5 ((255 - byte) ∷ []) (on (255 - byte)))) rs es (verdictOutcome v) handed
-        → Heard n p hops (visitReplies ignored p byte ++ rs) (visitEvents p ++ es) v handed
+        → Runs (cond final? (final_script p hops) (check_with inside 5 ((255 - byte) ∷ []) (on (255 - byte)))) rs es (verdict_outcome v) handed
+        → Heard n p hops (visit_replies ignored p byte ++ rs) (visit_events p ++ es) v handed
     byte-heard true inside ignored byte rs es l small e f h =
         let d = final-passed p hops (verdicts v) h in
         let b : byte ≡ 255 = eqb-true byte 255 e in
-        subst (λ (w : Verdict). Heard n p hops (visitReplies ignored p byte ++ rs) (visitEvents p ++ es) w handed) (is-final v p hops d.end)
+        subst (λ (w : Verdict). Heard n p hops (visit_replies ignored p byte ++ rs) (visit_events p ++ es) w handed) (is-final v p hops d.end)
         (rw (b, d.replies, d.events) (at-final ignored handed l d.long d.small))
     byte-heard false true ignored byte rs es l small e f h = further ignored byte rs es l (record { small = small; other = eqb-false byte 255 e }) (ltb-true (255 - byte) n f) h
     byte-heard false false ignored byte rs es l small e f h =
         let d = stopped-is h in
-        rw (d.0, d.1, d.3, append-nil (visitReplies ignored p byte), append-nil (visitEvents p))
-        (subst (λ (w : Verdict). Heard n p hops (visitReplies ignored p byte) (visitEvents p) w []) (is-outside v (255 - byte) d.2)
+        rw (d.0, d.1, d.3, append-nil (visit_replies ignored p byte), append-nil (visit_events p))
+        (subst (λ (w : Verdict). Heard n p hops (visit_replies ignored p byte) (visit_events p) w []) (is-outside v (255 - byte) d.2)
         (at-outside ignored byte l (record { small = small; other = eqb-false byte 255 e }) (ltb-false (255 - byte) n f)))
 
-    visit-heard : (rs : List Bool) (es : List Event) → Runs (visitScript p (by_byte n p hops on)) rs es (verdictOutcome v) handed → Heard n p hops rs es v handed
+    visit-heard : (rs : List Bool) (es : List Event) → Runs (visit_script p (by_byte n p hops on)) rs es (verdict_outcome v) handed → Heard n p hops rs es v handed
     visit-heard rs es h =
         let x = visit-passed p (by_byte n p hops on) (verdicts v) h in
         subst₂ (λ (qs : List Bool) (fs : List Event). Heard n p hops qs fs v handed) (sym x.goes.replies) (sym x.goes.events)
         (byte-heard (eqb x.byte 255) (ltb (255 - x.byte) n) x.ignored x.byte x.goes.later x.goes.after x.long x.small refl refl x.goes.runs)
 
   walk-heard : (more p hops : ℕ) (v : Verdict) (handed : List ℕ) (rs : List Bool) (es : List Event) → hops + more + 1 ≡ n
-      → Runs (walkScript n more p hops) rs es (verdictOutcome v) handed → Heard n p hops rs es v handed
-  unfolding walkScript
+      → Runs (walk_script n more p hops) rs es (verdict_outcome v) handed → Heard n p hops rs es v handed
+  unfolding walk_script
   walk-heard zero p hops v handed rs es fuel h =
       visit-heard v handed p hops (λ named. stops 4 [])
       (λ ignored byte qs fs l r inside g.
       let d = stopped-is g in
-      rw (d.0, d.1, d.3, append-nil (visitReplies ignored p byte), append-nil (visitEvents p))
-      (subst (λ (w : Verdict). Heard n p hops (visitReplies ignored p byte) (visitEvents p) w []) (is_loop v d.2)
+      rw (d.0, d.1, d.3, append-nil (visit_replies ignored p byte), append-nil (visit_events p))
+      (subst (λ (w : Verdict). Heard n p hops (visit_replies ignored p byte) (visit_events p) w []) (is_loop v d.2)
       (at-loop ignored byte l r inside (omega arith)))) rs es h
   walk-heard (suc more) p hops v handed rs es fuel h =
-      visit-heard v handed p hops (λ named. walkScript n more named (hops + 1))
+      visit-heard v handed p hops (λ named. walk_script n more named (hops + 1))
       (λ ignored byte qs fs l r inside g. at_next ignored byte l r inside (omega arith) (walk-heard more (named_by byte) (hops + 1) v handed qs fs (omega arith) g)) rs es h
 
   page-heard : 0 < n → (p : ℕ) → p < n → (v : Verdict) (handed : List ℕ) (rs : List Bool) (es : List Event)
-      → Runs (pageScript n p) rs es (verdictOutcome v) handed → Heard n p 0 rs es v handed
-  unfolding pageScript
+      → Runs (page_script n p) rs es (verdict_outcome v) handed → Heard n p 0 rs es v handed
+  unfolding page_script
   page-heard some p below v handed rs es h = walk-heard (n - 1) p 0 v handed rs es (omega arith) (simp (lt-ltb p n below) at h)
 
   -- ---- of the calls
 
   module _ (some : 0 < n) (p : ℕ) (lent : List ℕ) (room : length lent ≡ 32) where
-    pub page-at-most : (replies : List Bool) → length (eventsOf (pageAnswersTo n (pageStarted n p lent) replies)) ≤ mostEvents n
+    pub page-at-most : (replies : List Bool) → length (events_of (page_answers_to n (page_started n p lent) replies)) ≤ most_events n
     page-at-most replies = rw (page-plays n some p lent room replies) (bounded replies (page-bounded some p)).0
 
-    pub page-image-stays : (c : Chip) (replies : List Bool) → (run n c (eventsOf (pageAnswersTo n (pageStarted n p lent) replies))).image ≡ c.image
+    pub page-image-stays : (c : Chip) (replies : List Bool) → (run n c (events_of (page_answers_to n (page_started n p lent) replies))).image ≡ c.image
     page-image-stays c replies = unpulsed n _ c (rw (page-plays n some p lent room replies) (bounded replies (page-bounded some p)).1)
 
     pub page-agreed : p < n → (first : Bool) (replies : List Bool) (v : Verdict) (before later : List (Outcome Next))
-        → pageAnswersTo n (pageStarted n p lent) (first ∷ replies) ≡ before ++ (verdictOutcome v ∷ later)
-        → PageAgreed n p v lent replies (pageAnswersTo n (pageStarted n p lent) (first ∷ replies)) (pageAfter n (pageStarted n p lent) (first ∷ replies)).buffer
+        → page_answers_to n (page_started n p lent) (first ∷ replies) ≡ before ++ (verdict_outcome v ∷ later)
+        → PageAgreed n p v lent replies (page_answers_to n (page_started n p lent) (first ∷ replies)) (page_after n (page_started n p lent) (first ∷ replies)).buffer
     page-agreed below first replies v before later e =
         let played = page-plays n some p lent room (first ∷ replies) in
-        let h = told-ended (pageScript n p) first replies (verdictOutcome v) before later (quiet-verdict v) (sym played ∙ e) in
+        let h = told-ended (page_script n p) first replies (verdict_outcome v) before later (quiet-verdict v) (sym played ∙ e) in
         let cut = ap (λ (l : List Bool). first ∷ l) h.is in
         record {
           used = h.used;
@@ -172,6 +172,6 @@ module _ (n : ℕ) where
           page = h.bytes;
           is = h.is;
           heard = page-heard some p below v h.bytes h.used h.events h.runs;
-          sent = ap eventsOf (played ∙ ap (play (pageScript n p)) cut) ∙ runs-events first h.rest h.runs;
-          buffer = page-leaves n some p lent room (first ∷ replies) ∙ ap (λ (l : List Bool). leftBy (λ _. pageScript n p) l lent) cut ∙ runs-left first h.rest lent h.runs;
+          sent = ap events_of (played ∙ ap (play (page_script n p)) cut) ∙ runs-events first h.rest h.runs;
+          buffer = page-leaves n some p lent room (first ∷ replies) ∙ ap (λ (l : List Bool). left_by (λ _. page_script n p) l lent) cut ∙ runs-left first h.rest lent h.runs;
         }

@@ -11,18 +11,18 @@ use lib.Dec.{ltb, eqb}
 use lib.ListN.{length, get_or, length-append, get_or-append}
 use lib.Seq.{get_or-append-add}
 use borrow.Author.Tests.{lt-ltb, le-ltb}
-use Rattle.base_types.specs.Bits.{odd, bit_at, bits_of, bitsOfBytes}
+use Rattle.base_types.specs.Bits.{odd, bit_at, bits_of, bits_of_bytes}
 use Rattle.base_types.specs.declared.address.Target.{Target}
 use Rattle.base_types.specs.declared.address.Target.TheVariants.{Data, Status}
 use Rattle.base_types.specs.declared.write_mode.WriteMode.{WriteMode}
 use Rattle.base_types.specs.declared.write_mode.WriteMode.TheVariants.{Ordinary, Quick}
-use Rattle.base_crc.specs.Crc.{crc16Byte, crc16Of, crc16Word}
+use Rattle.base_crc.specs.Crc.{crc16_byte, crc16_of, crc16_word}
 use Rattle.bus_events.specs.Events.{slot, read_slot}
 use Rattle.bus_events.specs.Slots.{slots}
-use Rattle.master_plan.specs.Kind.{selecting, headCount, crcCount, byte_count, writeCount}
-use Rattle.master_plan.specs.Places.{bitmapAddress, clearing, pageAddress, redirectionAddress, naming, address_of, head_of}
-use Rattle.master_plan.specs.Plan.{step, resetStep, pulseStep, freely, sendSteps, readSteps, crcSteps, backSteps, byteSteps, bytesSteps, headSteps, writeSteps, plan_of}
-use Rattle.master_plan.specs.Code.At.{sendAt, crcAt, backAt, byte_at, headByte, headAt, registerAt, number_at, writeAt, part_at}
+use Rattle.master_plan.specs.Kind.{selecting, head_count, crc_count, byte_count, write_count}
+use Rattle.master_plan.specs.Places.{bitmap_address, clearing, page_address, redirection_address, naming, address_of, head_of}
+use Rattle.master_plan.specs.Plan.{step, reset_step, pulse_step, freely, send_steps, read_steps, crc_steps, back_steps, byte_steps, bytes_steps, head_steps, write_steps, plan_of}
+use Rattle.master_plan.specs.Code.At.{send_at, crc_at, back_at, byte_at, head_byte, head_at, register_at, number_at, write_at, part_at}
 use Rattle.master_plan.specs.declared.Part.{Part}
 use Rattle.master_plan.specs.declared.Part.TheVariants.{Bitmap, NewPage, Link, Closing}
 use Rattle.master_plan.specs.declared.Step.{Step}
@@ -32,16 +32,16 @@ use Rattle.master_plan.specs.declared.kind.UpdateKind.{UpdateKind}
 use Rattle.master_plan.proofs.Lengths.{send-length, crc-length, byte-length, head-length, write-length}
 
 abbrev at : List Step → ℕ → Step
-at ss i = get_or ss i resetStep
+at ss i = get_or ss i reset_step
 
 -- in the first list, or in the second
 at_left : (xs ys : List Step) (n i : ℕ) → length xs ≡ n → i < n → at (xs ++ ys) i ≡ at xs i
-at_left xs ys n i e lt = get_or-append xs ys resetStep i (omega arith)
+at_left xs ys n i e lt = get_or-append xs ys reset_step i (omega arith)
 
 at_right : (xs ys : List Step) (n i : ℕ) → length xs ≡ n → n ≤ i → at (xs ++ ys) i ≡ at ys (i - n)
 at_right xs ys n i e le =
     let z : i ≡ length xs + (i - n) = omega arith in
-    ap (at (xs ++ ys)) z ∙ get_or-append-add xs ys (i - n) resetStep
+    ap (at (xs ++ ys)) z ∙ get_or-append-add xs ys (i - n) reset_step
 
 -- the same as a test
 in_either : (xs ys : List Step) (n i : ℕ) (a b : Step) → length xs ≡ n → (i < n → a ≡ at xs i) → (n ≤ i → b ≡ at ys (i - n)) → cond (ltb i n) a b ≡ at (xs ++ ys) i
@@ -72,14 +72,14 @@ free-length zero v = refl
 free-length (suc k) v = ap suc (free-length k (v / 2))
 
 -- bit i modulo 8 of byte i divided by 8
-send_at : (bytes : List ℕ) (i : ℕ) → i < 8 * length bytes → sendAt (get_or bytes (i / 8) 0) i ≡ at (sendSteps bytes) i
-unfolding sendAt sendSteps bitsOfBytes
-send_at [] i lt = let z : ⊥ = omega arith in absurd z
-send_at (b ∷ bs) i lt =
-    go (λ le. send_at bs (i - 8) (omega arith)) (dec_lt i 8) ∙ ap (λ (l : List Step). at l i) (sym (freely-append (bits_of 8 b) (bitsOfBytes bs)))
+send_at_lem : (bytes : List ℕ) (i : ℕ) → i < 8 * length bytes → send_at (get_or bytes (i / 8) 0) i ≡ at (send_steps bytes) i
+unfolding send_at send_steps bits_of_bytes
+send_at_lem [] i lt = let z : ⊥ = omega arith in absurd z
+send_at_lem (b ∷ bs) i lt =
+    go (λ le. send_at_lem bs (i - 8) (omega arith)) (dec_lt i 8) ∙ ap (λ (l : List Step). at l i) (sym (freely-append (bits_of 8 b) (bits_of_bytes bs)))
   where
-    go : (8 ≤ i → sendAt (get_or bs ((i - 8) / 8) 0) (i - 8) ≡ at (freely (slots (bitsOfBytes bs))) (i - 8)) → Dec (i < 8)
-        → sendAt (get_or (b ∷ bs) (i / 8) 0) i ≡ at (freely (slots (bits_of 8 b)) ++ freely (slots (bitsOfBytes bs))) i
+    go : (8 ≤ i → send_at (get_or bs ((i - 8) / 8) 0) (i - 8) ≡ at (freely (slots (bits_of_bytes bs))) (i - 8)) → Dec (i < 8)
+        → send_at (get_or (b ∷ bs) (i / 8) 0) i ≡ at (freely (slots (bits_of 8 b)) ++ freely (slots (bits_of_bytes bs))) i
     go ih (yes y) =
         let q : i / 8 ≡ 0 = omega arith in
         let r : i % 8 ≡ i = omega arith in
@@ -89,31 +89,31 @@ send_at (b ∷ bs) i lt =
         let r : i % 8 ≡ (i - 8) % 8 = omega arith in
         rw (q, r) (ih (omega arith)) ∙ sym (at_right (freely (slots (bits_of 8 b))) _ 8 i (free-length 8 b) (omega arith))
 
-read-early : (complete : Bool → Wanted) (n v i : ℕ) → i < n → at (readSteps complete (suc n) v) i ≡ step read_slot (Bit (bit_at v i))
-unfolding readSteps
+read-early : (complete : Bool → Wanted) (n v i : ℕ) → i < n → at (read_steps complete (suc n) v) i ≡ step read_slot (Bit (bit_at v i))
+unfolding read_steps
 read-early complete zero v i lt = let z : ⊥ = omega arith in absurd z
 read-early complete (suc n) v zero lt = ap (λ (x : ℕ). step read_slot (Bit (odd x))) (sym (div-one v))
 read-early complete (suc n) v (suc i) lt = read-early complete n (v / 2) i (omega arith) ∙ ap (λ (b : Bool). step read_slot (Bit b)) (bit-half v i)
 
-read-last : (complete : Bool → Wanted) (n v : ℕ) → at (readSteps complete (suc n) v) n ≡ step read_slot (complete (bit_at v n))
-unfolding readSteps
+read-last : (complete : Bool → Wanted) (n v : ℕ) → at (read_steps complete (suc n) v) n ≡ step read_slot (complete (bit_at v n))
+unfolding read_steps
 read-last complete zero v = ap (λ (x : ℕ). step read_slot (complete (odd x))) (sym (div-one v))
 read-last complete (suc n) v = read-last complete n (v / 2) ∙ ap (λ (b : Bool). step read_slot (complete b)) (bit-half v n)
 
 -- a number of m + 1 bits, as the code finds its bit i
 read_at : (complete : Bool → Wanted) (m v i : ℕ) → i < suc m
-    → cond (ltb i m) (step read_slot (Bit (bit_at v (i % suc m)))) (step read_slot (complete (bit_at v m))) ≡ at (readSteps complete (suc m) v) i
+    → cond (ltb i m) (step read_slot (Bit (bit_at v (i % suc m)))) (step read_slot (complete (bit_at v m))) ≡ at (read_steps complete (suc m) v) i
 read_at complete m v i lt = go (dec_lt i m)
   where
     go : Dec (i < m)
-        → cond (ltb i m) (step read_slot (Bit (bit_at v (i % suc m)))) (step read_slot (complete (bit_at v m))) ≡ at (readSteps complete (suc m) v) i
+        → cond (ltb i m) (step read_slot (Bit (bit_at v (i % suc m)))) (step read_slot (complete (bit_at v m))) ≡ at (read_steps complete (suc m) v) i
     go (yes y) = simp (lt-ltb i m y, mod-eq_of_lt {n = i} {m = suc m} lt) (sym (read-early complete m v i y))
     go (no z) = let e : i ≡ m = omega arith in simp (le-ltb i m (omega arith)) (rw e (sym (read-last complete m v)))
 
 -- ---- a byte, and bytes
 
-crc-at : (mode : WriteMode) (crc i : ℕ) → i < crcCount mode → crcAt crc i ≡ at (crcSteps mode crc) i
-unfolding crcAt crcSteps
+crc-at : (mode : WriteMode) (crc i : ℕ) → i < crc_count mode → crc_at crc i ≡ at (crc_steps mode crc) i
+unfolding crc_at crc_steps
 crc-at Ordinary crc i lt = read_at LastCrcBit 15 crc i lt
 crc-at Quick crc i lt = let z : ⊥ = omega arith in absurd z
 
@@ -121,16 +121,16 @@ one_at : (s : Step) (i : ℕ) → i < 1 → s ≡ at (s ∷ []) i
 one_at s zero lt = refl
 one_at s (suc i) lt = let z : ⊥ = omega arith in absurd z
 
-byte-at : (mode : WriteMode) (register old byte i : ℕ) → i < byte_count mode → byte_at mode register old byte i ≡ at (byteSteps mode register old byte) i
-unfolding byte_at byteSteps backAt backSteps
+byte-at : (mode : WriteMode) (register old byte i : ℕ) → i < byte_count mode → byte_at mode register old byte i ≡ at (byte_steps mode register old byte) i
+unfolding byte_at byte_steps back_at back_steps
 byte-at mode register old byte i lt =
-    in_either (sendSteps (byte ∷ [])) _ 8 i _ _ (send-length (byte ∷ [])) (λ y. let q : i / 8 ≡ 0 = omega arith in rw q at (send_at (byte ∷ []) i y))
-    (λ le. in_either (crcSteps mode _) _ (crcCount mode) (i - 8) _ _ (crc-length mode _) (crc-at mode _ (i - 8))
-    (λ later. in_either (pulseStep ∷ []) (readSteps LastBackBit 8 (bit_and old byte)) 1 (i - 8 - crcCount mode) _ _ refl (one_at pulseStep _)
-    (λ last. read_at LastBackBit 7 (bit_and old byte) (i - 8 - crcCount mode - 1) (omega arith))))
+    in_either (send_steps (byte ∷ [])) _ 8 i _ _ (send-length (byte ∷ [])) (λ y. let q : i / 8 ≡ 0 = omega arith in rw q at (send_at_lem (byte ∷ []) i y))
+    (λ le. in_either (crc_steps mode _) _ (crc_count mode) (i - 8) _ _ (crc-length mode _) (crc-at mode _ (i - 8))
+    (λ later. in_either (pulse_step ∷ []) (read_steps LastBackBit 8 (bit_and old byte)) 1 (i - 8 - crc_count mode) _ _ refl (one_at pulse_step _)
+    (λ last. read_at LastBackBit 7 (bit_and old byte) (i - 8 - crc_count mode - 1) (omega arith))))
 
-register-next : (a crc j : ℕ) → registerAt a crc (suc j) ≡ registerAt (a + 1) (a + 1) j
-unfolding registerAt
+register-next : (a crc j : ℕ) → register_at a crc (suc j) ≡ register_at (a + 1) (a + 1) j
+unfolding register_at
 register-next a crc zero = refl
 register-next a crc (suc j) = simp (le-ltb (suc (suc j)) 1 (omega arith), le-ltb (suc j) 1 (omega arith)) (omega arith)
 
@@ -151,88 +151,88 @@ number_small Quick i lt = omega arith
 
 -- the step at position i of a run of bytes
 abbrev bytes_at : WriteMode → ℕ → ℕ → ℕ → List ℕ → ℕ → Step
-bytes_at mode a crc old ds i = byte_at mode (registerAt a crc (i / byte_count mode)) old (get_or ds (i / byte_count mode) 0) (i % byte_count mode)
+bytes_at mode a crc old ds i = byte_at mode (register_at a crc (i / byte_count mode)) old (get_or ds (i / byte_count mode) 0) (i % byte_count mode)
 
 bytes-at : (mode : WriteMode) (ds : List ℕ) (a crc old i : ℕ) → i < byte_count mode * length ds
-    → bytes_at mode a crc old ds i ≡ at (bytesSteps mode a crc old ds) i
-unfolding bytesSteps
+    → bytes_at mode a crc old ds i ≡ at (bytes_steps mode a crc old ds) i
+unfolding bytes_steps
 bytes-at mode [] a crc old i lt = let z : ⊥ = omega arith in absurd z
 bytes-at mode (d ∷ ds) a crc old i lt =
     go (λ le. bytes-at mode ds (a + 1) (a + 1) old (i - byte_count mode) (omega arith)) (dec_lt i (byte_count mode))
   where
-    go : (byte_count mode ≤ i → bytes_at mode (a + 1) (a + 1) old ds (i - byte_count mode) ≡ at (bytesSteps mode (a + 1) (a + 1) old ds) (i - byte_count mode))
-        → Dec (i < byte_count mode) → bytes_at mode a crc old (d ∷ ds) i ≡ at (byteSteps mode crc old d ++ bytesSteps mode (a + 1) (a + 1) old ds) i
+    go : (byte_count mode ≤ i → bytes_at mode (a + 1) (a + 1) old ds (i - byte_count mode) ≡ at (bytes_steps mode (a + 1) (a + 1) old ds) (i - byte_count mode))
+        → Dec (i < byte_count mode) → bytes_at mode a crc old (d ∷ ds) i ≡ at (byte_steps mode crc old d ++ bytes_steps mode (a + 1) (a + 1) old ds) i
     go ih (yes y) =
-        rw ((in-first mode i y).0, (in-first mode i y).1) (unfold registerAt in byte-at mode crc old d i y)
-        ∙ sym (at_left (byteSteps mode crc old d) _ (byte_count mode) i (byte-length mode crc old d) y)
+        rw ((in-first mode i y).0, (in-first mode i y).1) (unfold register_at in byte-at mode crc old d i y)
+        ∙ sym (at_left (byte_steps mode crc old d) _ (byte_count mode) i (byte-length mode crc old d) y)
     go ih (no z) =
         let le : byte_count mode ≤ i = omega arith in
         rw ((past_first mode i le).0, (past_first mode i le).1, register-next) (ih le)
-        ∙ sym (at_right (byteSteps mode crc old d) _ (byte_count mode) i (byte-length mode crc old d) le)
+        ∙ sym (at_right (byte_steps mode crc old d) _ (byte_count mode) i (byte-length mode crc old d) le)
 
 -- ---- a write, and the plan
 
 module _ (kind : UpdateKind) where
-  head_at : (target : Target) (i : ℕ) → i < headCount kind → headAt kind target i ≡ at (headSteps kind target) i
-  unfolding headAt headByte headSteps
-  head_at target i lt =
-      in_either (resetStep ∷ []) (sendSteps (selecting kind.selection ++ head_of kind.mode target)) 1 i _ _ refl (one_at resetStep i)
-      (λ le. send_at (selecting kind.selection ++ head_of kind.mode target) (i - 1)
+  head_at_lem : (target : Target) (i : ℕ) → i < head_count kind → head_at kind target i ≡ at (head_steps kind target) i
+  unfolding head_at head_byte head_steps
+  head_at_lem target i lt =
+      in_either (reset_step ∷ []) (send_steps (selecting kind.selection ++ head_of kind.mode target)) 1 i _ _ refl (one_at reset_step i)
+      (λ le. send_at_lem (selecting kind.selection ++ head_of kind.mode target) (i - 1)
       (omega (arith, length-append (selecting kind.selection) (head_of kind.mode target))))
 
-  write-at : (target : Target) (old : ℕ) (ds : List ℕ) (i : ℕ) → i < writeCount kind (length ds)
-      → writeAt kind target old (get_or ds (number_at kind i) 0) i ≡ at (writeSteps kind target old ds) i
-  unfolding writeAt writeSteps
+  write-at : (target : Target) (old : ℕ) (ds : List ℕ) (i : ℕ) → i < write_count kind (length ds)
+      → write_at kind target old (get_or ds (number_at kind i) 0) i ≡ at (write_steps kind target old ds) i
+  unfolding write_at write_steps
   write-at target old ds i lt =
-      in_either (headSteps kind target) _ (headCount kind) i _ _ (head-length kind target) (head_at target i)
-      (λ le. bytes-at kind.mode ds (address_of target) (crc16Of (head_of kind.mode target)) old (i - headCount kind) (omega arith))
+      in_either (head_steps kind target) _ (head_count kind) i _ _ (head-length kind target) (head_at_lem target i)
+      (λ le. bytes-at kind.mode ds (address_of target) (crc16_of (head_of kind.mode target)) old (i - head_count kind) (omega arith))
 
-  one-byte-at : (target : Target) (old d i : ℕ) → i < writeCount kind 1 → writeAt kind target old d i ≡ at (writeSteps kind target old (d ∷ [])) i
-  one-byte-at target old d i lt = rw (in-first kind.mode (i - headCount kind) (omega arith)).0 at (write-at target old (d ∷ []) i lt)
+  one-byte-at : (target : Target) (old d i : ℕ) → i < write_count kind 1 → write_at kind target old d i ≡ at (write_steps kind target old (d ∷ [])) i
+  one-byte-at target old d i lt = rw (in-first kind.mode (i - head_count kind) (omega arith)).0 at (write-at target old (d ∷ []) i lt)
 
-  closing_at : (i : ℕ) → resetStep ≡ at (resetStep ∷ []) i
+  closing_at : (i : ℕ) → reset_step ≡ at (reset_step ∷ []) i
   closing_at zero = refl
   closing_at (suc i) = refl
 
   in_parts : (l t used : ℕ) (new : List ℕ) (k : ℕ) → length new ≡ 32
-      → cond (ltb k (writeCount kind 1)) (writeAt kind (Status (bitmapAddress t)) used (clearing t) k)
-      (cond (ltb (k - writeCount kind 1) (writeCount kind 32))
-      (writeAt kind (Data (pageAddress t)) 255 (get_or new (number_at kind (k - writeCount kind 1)) 0) (k - writeCount kind 1))
-      (cond (ltb (k - writeCount kind 1 - writeCount kind 32) (writeCount kind 1))
-      (writeAt kind (Status (redirectionAddress l)) 255 (naming t).0 (k - writeCount kind 1 - writeCount kind 32)) resetStep))
-      ≡ get_or (plan_of kind l t used new) k resetStep
+      → cond (ltb k (write_count kind 1)) (write_at kind (Status (bitmap_address t)) used (clearing t) k)
+      (cond (ltb (k - write_count kind 1) (write_count kind 32))
+      (write_at kind (Data (page_address t)) 255 (get_or new (number_at kind (k - write_count kind 1)) 0) (k - write_count kind 1))
+      (cond (ltb (k - write_count kind 1 - write_count kind 32) (write_count kind 1))
+      (write_at kind (Status (redirection_address l)) 255 (naming t).0 (k - write_count kind 1 - write_count kind 32)) reset_step))
+      ≡ get_or (plan_of kind l t used new) k reset_step
   unfolding plan_of
   in_parts l t used new k long =
-      in_either (writeSteps kind (Status (bitmapAddress t)) used (clearing t ∷ [])) _ (writeCount kind 1) k _ _
-      (write-length kind (Status (bitmapAddress t)) used (clearing t ∷ [])) (one-byte-at (Status (bitmapAddress t)) used (clearing t) k)
-      (λ _. in_either (writeSteps kind (Data (pageAddress t)) 255 new) _ (writeCount kind 32) (k - writeCount kind 1) _ _
-      (write-length kind (Data (pageAddress t)) 255 new ∙ rw long)
-      (λ lt. write-at (Data (pageAddress t)) 255 new (k - writeCount kind 1) (rw long lt))
-      (λ _. in_either (writeSteps kind (Status (redirectionAddress l)) 255 ((naming t).0 ∷ [])) _ (writeCount kind 1) (k - writeCount kind 1 - writeCount kind 32) _ _
-      (write-length kind (Status (redirectionAddress l)) 255 ((naming t).0 ∷ []))
-      (one-byte-at (Status (redirectionAddress l)) 255 (naming t).0 (k - writeCount kind 1 - writeCount kind 32))
-      (λ _. closing_at (k - writeCount kind 1 - writeCount kind 32 - writeCount kind 1))))
+      in_either (write_steps kind (Status (bitmap_address t)) used (clearing t ∷ [])) _ (write_count kind 1) k _ _
+      (write-length kind (Status (bitmap_address t)) used (clearing t ∷ [])) (one-byte-at (Status (bitmap_address t)) used (clearing t) k)
+      (λ _. in_either (write_steps kind (Data (page_address t)) 255 new) _ (write_count kind 32) (k - write_count kind 1) _ _
+      (write-length kind (Data (page_address t)) 255 new ∙ rw long)
+      (λ lt. write-at (Data (page_address t)) 255 new (k - write_count kind 1) (rw long lt))
+      (λ _. in_either (write_steps kind (Status (redirection_address l)) 255 ((naming t).0 ∷ [])) _ (write_count kind 1) (k - write_count kind 1 - write_count kind 32) _ _
+      (write-length kind (Status (redirection_address l)) 255 ((naming t).0 ∷ []))
+      (one-byte-at (Status (redirection_address l)) 255 (naming t).0 (k - write_count kind 1 - write_count kind 32))
+      (λ _. closing_at (k - write_count kind 1 - write_count kind 32 - write_count kind 1))))
 
   -- the step of a part
-  abbrev pub stepIn : Part → ℕ → ℕ → ℕ → List ℕ → Step
-  stepIn (Bitmap i) l t used new = writeAt kind (Status (bitmapAddress t)) used (clearing t) i
-  stepIn (NewPage i) l t used new = writeAt kind (Data (pageAddress t)) 255 (get_or new (number_at kind i) 0) i
-  stepIn (Link i) l t used new = writeAt kind (Status (redirectionAddress l)) 255 (naming t).0 i
-  stepIn Closing l t used new = resetStep
+  abbrev pub step_in : Part → ℕ → ℕ → ℕ → List ℕ → Step
+  step_in (Bitmap i) l t used new = write_at kind (Status (bitmap_address t)) used (clearing t) i
+  step_in (NewPage i) l t used new = write_at kind (Data (page_address t)) 255 (get_or new (number_at kind i) 0) i
+  step_in (Link i) l t used new = write_at kind (Status (redirection_address l)) 255 (naming t).0 i
+  step_in Closing l t used new = reset_step
 
   pub plan-at : (l t used : ℕ) (new : List ℕ) (k : ℕ) → length new ≡ 32 → {part : Part} → part ≡ part_at kind k
-      → stepIn part l t used new ≡ get_or (plan_of kind l t used new) k resetStep
+      → step_in part l t used new ≡ get_or (plan_of kind l t used new) k reset_step
   unfolding part_at
   plan-at l t used new k long e =
-      ap (λ (part : Part). stepIn part l t used new) e
-      ∙ go (ltb k (writeCount kind 1)) (ltb (k - writeCount kind 1) (writeCount kind 32))
-      (ltb (k - writeCount kind 1 - writeCount kind 32) (writeCount kind 1))
+      ap (λ (part : Part). step_in part l t used new) e
+      ∙ go (ltb k (write_count kind 1)) (ltb (k - write_count kind 1) (write_count kind 32))
+      (ltb (k - write_count kind 1 - write_count kind 32) (write_count kind 1))
       ∙ in_parts l t used new k long
     where
-      go : (a b c : Bool) → stepIn (cond a (Bitmap k) (cond b (NewPage (k - writeCount kind 1)) (cond c (Link (k - writeCount kind 1 - writeCount kind 32)) Closing))) l t used new
-          ≡ cond a (writeAt kind (Status (bitmapAddress t)) used (clearing t) k)
-          (cond b (writeAt kind (Data (pageAddress t)) 255 (get_or new (number_at kind (k - writeCount kind 1)) 0) (k - writeCount kind 1))
-          (cond c (writeAt kind (Status (redirectionAddress l)) 255 (naming t).0 (k - writeCount kind 1 - writeCount kind 32)) resetStep))
+      go : (a b c : Bool) → step_in (cond a (Bitmap k) (cond b (NewPage (k - write_count kind 1)) (cond c (Link (k - write_count kind 1 - write_count kind 32)) Closing))) l t used new
+          ≡ cond a (write_at kind (Status (bitmap_address t)) used (clearing t) k)
+          (cond b (write_at kind (Data (page_address t)) 255 (get_or new (number_at kind (k - write_count kind 1)) 0) (k - write_count kind 1))
+          (cond c (write_at kind (Status (redirection_address l)) 255 (naming t).0 (k - write_count kind 1 - write_count kind 32)) reset_step))
       go true b c = refl
       go false true c = refl
       go false false true = refl

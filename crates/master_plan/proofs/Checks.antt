@@ -9,29 +9,29 @@ use Rattle.base_types.specs.declared.write_mode.WriteMode.{WriteMode}
 use Rattle.base_types.specs.declared.write_mode.WriteMode.TheVariants.{Quick}
 use Rattle.bus_events.specs.declared.Event.{Event}
 use Rattle.bus_events.specs.Slots.{sending}
-use Rattle.master_plan.specs.Plan.{resetStep, freely, sendSteps, readSteps, crcSteps, backSteps, byteSteps, bytesSteps, headSteps, writeSteps, plan_of}
+use Rattle.master_plan.specs.Plan.{reset_step, freely, send_steps, read_steps, crc_steps, back_steps, byte_steps, bytes_steps, head_steps, write_steps, plan_of}
 use Rattle.master_plan.specs.declared.Step.{Step}
 use Rattle.master_plan.specs.declared.Wanted.{Wanted}
 use Rattle.master_plan.specs.declared.Wanted.TheVariants.{Anything, Presence, Bit, LastCrcBit, LastBackBit}
 use Rattle.master_plan.specs.declared.kind.UpdateKind.{UpdateKind}
 
-abbrev pub judgesCrc : Wanted → Bool
-judgesCrc Anything = false
-judgesCrc Presence = false
-judgesCrc (Bit b) = false
-judgesCrc (LastCrcBit b) = true
-judgesCrc (LastBackBit b) = false
+abbrev pub judges_crc : Wanted → Bool
+judges_crc Anything = false
+judges_crc Presence = false
+judges_crc (Bit b) = false
+judges_crc (LastCrcBit b) = true
+judges_crc (LastBackBit b) = false
 
 -- a step of a list judges a CRC
-abbrev anyCrc : List Step → Bool
-anyCrc [] = false
-anyCrc (s ∷ ss) = cond (judgesCrc s.wanted) true (anyCrc ss)
+abbrev any_crc : List Step → Bool
+any_crc [] = false
+any_crc (s ∷ ss) = cond (judges_crc s.wanted) true (any_crc ss)
 
-any_append : (xs ys : List Step) → anyCrc (xs ++ ys) ≡ cond (anyCrc xs) true (anyCrc ys)
+any_append : (xs ys : List Step) → any_crc (xs ++ ys) ≡ cond (any_crc xs) true (any_crc ys)
 any_append [] ys = refl
-any_append (x ∷ xs) ys = go (judgesCrc x.wanted) (any_append xs ys)
+any_append (x ∷ xs) ys = go (judges_crc x.wanted) (any_append xs ys)
   where
-    go : (b : Bool) → anyCrc (xs ++ ys) ≡ cond (anyCrc xs) true (anyCrc ys) → cond b true (anyCrc (xs ++ ys)) ≡ cond (cond b true (anyCrc xs)) true (anyCrc ys)
+    go : (b : Bool) → any_crc (xs ++ ys) ≡ cond (any_crc xs) true (any_crc ys) → cond b true (any_crc (xs ++ ys)) ≡ cond (cond b true (any_crc xs)) true (any_crc ys)
     go true ih = refl
     go false ih = ih
 
@@ -39,36 +39,36 @@ either-false : (a b : Bool) → cond a true b ≡ false → (a ≡ false) × (b 
 either-false true b h = (h, cc)
 either-false false b h = (refl, h)
 
--- past its end a list gives resetStep
-none-at : (ss : List Step) (k : ℕ) → anyCrc ss ≡ false → judgesCrc (get_or ss k resetStep).wanted ≡ false
+-- past its end a list gives reset_step
+none-at : (ss : List Step) (k : ℕ) → any_crc ss ≡ false → judges_crc (get_or ss k reset_step).wanted ≡ false
 none-at [] k h = refl
-none-at (s ∷ ss) zero h = (either-false (judgesCrc s.wanted) (anyCrc ss) h).0
-none-at (s ∷ ss) (suc k) h = none-at ss k (either-false (judgesCrc s.wanted) (anyCrc ss) h).1
+none-at (s ∷ ss) zero h = (either-false (judges_crc s.wanted) (any_crc ss) h).0
+none-at (s ∷ ss) (suc k) h = none-at ss k (either-false (judges_crc s.wanted) (any_crc ss) h).1
 
-none_free : (es : List Event) → anyCrc (freely es) ≡ false
+none_free : (es : List Event) → any_crc (freely es) ≡ false
 none_free [] = refl
 none_free (e ∷ es) = none_free es
 
-none-sent : (bytes : List ℕ) → anyCrc (sendSteps bytes) ≡ false
-unfolding sendSteps
+none-sent : (bytes : List ℕ) → any_crc (send_steps bytes) ≡ false
+unfolding send_steps
 none-sent bytes = none_free (sending bytes)
 
-none-back : (n v : ℕ) → anyCrc (readSteps LastBackBit n v) ≡ false
-unfolding readSteps
+none-back : (n v : ℕ) → any_crc (read_steps LastBackBit n v) ≡ false
+unfolding read_steps
 none-back zero v = refl
 none-back (suc zero) v = refl
 none-back (suc (suc n)) v = none-back (suc n) (v / 2)
 
-none-bytes : (bytes : List ℕ) (a register old : ℕ) → anyCrc (bytesSteps Quick a register old bytes) ≡ false
-unfolding bytesSteps byteSteps crcSteps backSteps
+none-bytes : (bytes : List ℕ) (a register old : ℕ) → any_crc (bytes_steps Quick a register old bytes) ≡ false
+unfolding bytes_steps byte_steps crc_steps back_steps
 none-bytes [] a register old = refl
 none-bytes (byte ∷ bytes) a register old = simp (any_append, none-sent, none-back, none-bytes bytes)
 
 module _ (kind : UpdateKind) (quick : kind.mode ≡ Quick) where
-  none-write : (target : Target) (old : ℕ) (bytes : List ℕ) → anyCrc (writeSteps kind target old bytes) ≡ false
-  unfolding writeSteps headSteps
+  none-write : (target : Target) (old : ℕ) (bytes : List ℕ) → any_crc (write_steps kind target old bytes) ≡ false
+  unfolding write_steps head_steps
   none-write target old bytes = simp (any_append, none-sent) (rw quick (none-bytes bytes _ _ old))
 
-  pub no-crc : (l t used : ℕ) (new : List ℕ) (k : ℕ) → judgesCrc (get_or (plan_of kind l t used new) k resetStep).wanted ≡ false
+  pub no-crc : (l t used : ℕ) (new : List ℕ) (k : ℕ) → judges_crc (get_or (plan_of kind l t used new) k reset_step).wanted ≡ false
   unfolding plan_of
   no-crc l t used new k = none-at (plan_of kind l t used new) k (simp (any_append, none-write))

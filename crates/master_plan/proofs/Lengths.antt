@@ -6,13 +6,13 @@ use mathlib.Core.List.{List, [], ◌∷◌, ◌++◌}
 use native.Mathlib.Omega.{arith}
 use lib.Dec.{lit≤}
 use lib.ListN.{length, length-append}
-use Rattle.base_types.specs.Bits.{bits_of, bitsOfBytes}
+use Rattle.base_types.specs.Bits.{bits_of, bits_of_bytes}
 use Rattle.base_types.specs.declared.address.Target.{Target}
 use Rattle.base_types.specs.declared.write_mode.WriteMode.{WriteMode}
 use Rattle.base_types.specs.declared.write_mode.WriteMode.TheVariants.{Ordinary, Quick}
-use Rattle.master_plan.specs.Kind.{selecting, headCount, crcCount, byte_count, writeCount, total_of, Counts}
+use Rattle.master_plan.specs.Kind.{selecting, head_count, crc_count, byte_count, write_count, total_of, Counts}
 use Rattle.master_plan.specs.Places.{head_of}
-use Rattle.master_plan.specs.Plan.{sendSteps, readSteps, crcSteps, backSteps, byteSteps, bytesSteps, headSteps, writeSteps, plan_of}
+use Rattle.master_plan.specs.Plan.{send_steps, read_steps, crc_steps, back_steps, byte_steps, bytes_steps, head_steps, write_steps, plan_of}
 use Rattle.master_plan.specs.declared.Wanted.{Wanted}
 use Rattle.master_plan.specs.declared.kind.Selection.{Selection}
 use Rattle.master_plan.specs.declared.kind.Selection.TheVariants.{SkipRom}
@@ -33,38 +33,38 @@ counts =
 pub few : (s : Selection) → length (selecting s) ≤ 9
 few SkipRom = lit≤ tt
 
-pub short : (mode : WriteMode) → crcCount mode ≤ 16
+pub short : (mode : WriteMode) → crc_count mode ≤ 16
 short Ordinary = lit≤ tt
 short Quick = lit≤ tt
 
-pub send-length : (bytes : List ℕ) → length (sendSteps bytes) ≡ 8 * length bytes
-unfolding sendSteps bits_of bitsOfBytes
+pub send-length : (bytes : List ℕ) → length (send_steps bytes) ≡ 8 * length bytes
+unfolding send_steps bits_of bits_of_bytes
 send-length [] = refl
 send-length (b ∷ bs) = omega (arith, send-length bs)
 
-pub read_length : (complete : Bool → Wanted) (n v : ℕ) → length (readSteps complete n v) ≡ n
-unfolding readSteps
+pub read_length : (complete : Bool → Wanted) (n v : ℕ) → length (read_steps complete n v) ≡ n
+unfolding read_steps
 read_length complete zero v = refl
 read_length complete (suc zero) v = refl
 read_length complete (suc (suc n)) v = ap suc (read_length complete (suc n) (v / 2))
 
-pub crc-length : (mode : WriteMode) (crc : ℕ) → length (crcSteps mode crc) ≡ crcCount mode
-unfolding crcSteps
+pub crc-length : (mode : WriteMode) (crc : ℕ) → length (crc_steps mode crc) ≡ crc_count mode
+unfolding crc_steps
 crc-length Ordinary crc = read_length _ 16 crc
 crc-length Quick crc = refl
 
-pub byte-length : (mode : WriteMode) (register old byte : ℕ) → length (byteSteps mode register old byte) ≡ byte_count mode
-unfolding byteSteps backSteps
+pub byte-length : (mode : WriteMode) (register old byte : ℕ) → length (byte_steps mode register old byte) ≡ byte_count mode
+unfolding byte_steps back_steps
 byte-length mode register old byte = simp (length-append, send-length, crc-length, read_length) (omega arith)
 
-pub written-length : (mode : WriteMode) (bytes : List ℕ) (a register old : ℕ) → length (bytesSteps mode a register old bytes) ≡ byte_count mode * length bytes
-unfolding bytesSteps
+pub written-length : (mode : WriteMode) (bytes : List ℕ) (a register old : ℕ) → length (bytes_steps mode a register old bytes) ≡ byte_count mode * length bytes
+unfolding bytes_steps
 written-length mode [] a register old = omega arith
 written-length mode (byte ∷ bytes) a register old = simp (length-append, byte-length, written-length mode bytes) (omega arith)
 
 module _ (kind : UpdateKind) where
-  pub head-length : (target : Target) → length (headSteps kind target) ≡ headCount kind
-  unfolding headSteps
+  pub head-length : (target : Target) → length (head_steps kind target) ≡ head_count kind
+  unfolding head_steps
   head-length target =
       omega (
         arith,
@@ -72,8 +72,8 @@ module _ (kind : UpdateKind) where
         length-append (selecting kind.selection) (head_of kind.mode target),
       )
 
-  pub write-length : (target : Target) (old : ℕ) (bytes : List ℕ) → length (writeSteps kind target old bytes) ≡ writeCount kind (length bytes)
-  unfolding writeSteps
+  pub write-length : (target : Target) (old : ℕ) (bytes : List ℕ) → length (write_steps kind target old bytes) ≡ write_count kind (length bytes)
+  unfolding write_steps
   write-length target old bytes = simp (length-append, head-length, written-length)
 
   pub plan-length : (l t used : ℕ) (new : List ℕ) → length new ≡ 32 → length (plan_of kind l t used new) ≡ total_of kind

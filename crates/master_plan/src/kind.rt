@@ -1,7 +1,7 @@
 // What an update goes by, and how many events the parts of its plan have.
 ghost use Rattle.std.specs.Prelude.{◌≡◌, length, get_or};
 ghost use Rattle.master_plan.specs.Kind as kinds;
-ghost use Rattle.master_plan.specs.Kind.{kind_of, selecting, headCount, crcCount, byte_count, writeCount, total_of};
+ghost use Rattle.master_plan.specs.Kind.{kind_of, selecting, head_count, crc_count, byte_count, write_count, total_of};
 
 use base_types::write_mode::WriteMode;
 
@@ -74,7 +74,7 @@ pub fn selecting_byte(selection: Selection, j: u16) -> u8
 
 // Before the first byte of a write.
 pub fn head_count(kind: UpdateKind) -> u16
-    ensures { result ≡ headCount kind }
+    ensures { result ≡ head_count kind }
 {
     let selection = kind.selection;
     25 + 8 * selecting_count(selection)
@@ -82,7 +82,7 @@ pub fn head_count(kind: UpdateKind) -> u16
 
 // In the CRC of a byte.
 pub fn crc_count(mode: WriteMode) -> u16
-    ensures { result ≡ crcCount mode }
+    ensures { result ≡ crc_count mode }
 {
     match mode {
         WriteMode::Ordinary => 16,
@@ -99,7 +99,7 @@ pub fn byte_count(mode: WriteMode) -> u16
 
 // In a write of one byte.
 pub fn one_byte_count(kind: UpdateKind) -> u16
-    ensures { result ≡ writeCount kind 1 }
+    ensures { result ≡ write_count kind 1 }
 {
     let mode = kind.mode;
     head_count(kind) + byte_count(mode)
@@ -107,7 +107,7 @@ pub fn one_byte_count(kind: UpdateKind) -> u16
 
 // In a write of a page.
 pub fn full_page_count(kind: UpdateKind) -> u16
-    ensures { result ≡ writeCount kind 32 }
+    ensures { result ≡ write_count kind 32 }
 {
     let mode = kind.mode;
     head_count(kind) + 32 * byte_count(mode)

@@ -2,11 +2,11 @@
 // at a position.
 ghost use Rattle.std.specs.Prelude.{◌≡◌, ◌+◌, ◌/◌, ◌%◌, ◌<◌, get_or};
 ghost use Rattle.base_types.specs.Bits.{bit_at};
-ghost use Rattle.base_crc.specs.Crc.{crc16Of};
+ghost use Rattle.base_crc.specs.Crc.{crc16_of};
 ghost use Rattle.master_plan.specs.Kind.{byte_count};
-ghost use Rattle.master_plan.specs.Places.{bitmapAddress, clearing, pageAddress, redirectionAddress, naming, space_of, address_of, head_of};
-ghost use Rattle.master_plan.specs.Plan.{resetStep, pulseStep, plan_of};
-ghost use Rattle.master_plan.specs.Code.At.{sendAt, crcAt, backAt, byte_at, headByte, headAt, registerAt, number_at, writeAt, part_at};
+ghost use Rattle.master_plan.specs.Places.{bitmap_address, clearing, page_address, redirection_address, naming, space_of, address_of, head_of};
+ghost use Rattle.master_plan.specs.Plan.{reset_step, pulse_step, plan_of};
+ghost use Rattle.master_plan.specs.Code.At.{send_at, crc_at, back_at, byte_at, head_byte, head_at, register_at, number_at, write_at, part_at};
 
 use crate::kind::UpdateKind;
 use base_types::address::{DataAddress, Page, Redirection, Space, StatusAddress, Target};
@@ -39,7 +39,7 @@ pub struct Step {
 
 // The status byte with the bitmap bit of a page.
 pub fn bitmap_address(t: Page) -> StatusAddress
-    ensures is { result ≡ bitmapAddress t.0 }
+    ensures is { result ≡ bitmap_address t.0 }
     ensures low { result.0 < 32768 }
 {
     StatusAddress(layout::first_address(Field::UsedPages) + (t.0 >> 3) as u16)
@@ -54,7 +54,7 @@ fn clearing(t: Page) -> u8
 
 // The first byte of a page.
 fn page_address(t: Page) -> DataAddress
-    ensures is { result ≡ pageAddress t.0 }
+    ensures is { result ≡ page_address t.0 }
     ensures low { result.0 < 32768 }
 {
     DataAddress(32 * (t.0 as u16))
@@ -62,7 +62,7 @@ fn page_address(t: Page) -> DataAddress
 
 // The redirection byte of a page.
 fn redirection_address(l: Page) -> StatusAddress
-    ensures is { result ≡ redirectionAddress l.0 }
+    ensures is { result ≡ redirection_address l.0 }
     ensures low { result.0 < 32768 }
 {
     StatusAddress(layout::REDIRECTION_BYTES + l.0 as u16)
@@ -103,7 +103,7 @@ fn word_bit(x: u16, k: u16) -> bool
 }
 
 fn reset_step() -> Step
-    ensures { result ≡ resetStep }
+    ensures { result ≡ reset_step }
 {
     Step {
         event: bus_events::reset(),
@@ -112,7 +112,7 @@ fn reset_step() -> Step
 }
 
 fn pulse_step() -> Step
-    ensures { result ≡ pulseStep }
+    ensures { result ≡ pulse_step }
 {
     Step {
         event: bus_events::pulse(),
@@ -122,7 +122,7 @@ fn pulse_step() -> Step
 
 // Bit i of a byte that is sent.
 fn send_at(b: u8, i: u16) -> Step
-    ensures { result ≡ sendAt b i }
+    ensures { result ≡ send_at b i }
 {
     Step {
         event: bus_events::slot(bits::at(b, (i & 7) as u8)),
@@ -132,7 +132,7 @@ fn send_at(b: u8, i: u16) -> Step
 
 // Bit i of a CRC that is read.
 fn crc_at(v: u16, i: u16) -> Step
-    ensures { result ≡ crcAt v i }
+    ensures { result ≡ crc_at v i }
 {
     let event = bus_events::read_slot();
     if i < 15 {
@@ -150,7 +150,7 @@ fn crc_at(v: u16, i: u16) -> Step
 
 // Bit i of a byte that is read back.
 fn back_at(v: u8, i: u16) -> Step
-    ensures { result ≡ backAt v i }
+    ensures { result ≡ back_at v i }
 {
     let event = bus_events::read_slot();
     if i < 7 {
@@ -200,7 +200,7 @@ fn command(mode: WriteMode, target: Target) -> u8
 
 // Byte number j of those that select the chip and those of command and address.
 fn head_byte(kind: UpdateKind, target: Target, j: u16) -> u8
-    ensures { result ≡ headByte kind target j }
+    ensures { result ≡ head_byte kind target j }
 {
     let mode = kind.mode;
     let selection = kind.selection;
@@ -217,7 +217,7 @@ fn head_byte(kind: UpdateKind, target: Target, j: u16) -> u8
 }
 
 fn head_at(kind: UpdateKind, target: Target, i: u16) -> Step
-    ensures { result ≡ headAt kind target i }
+    ensures { result ≡ head_at kind target i }
 {
     if i < 1 {
         reset_step()
@@ -228,7 +228,7 @@ fn head_at(kind: UpdateKind, target: Target, i: u16) -> Step
 
 // The CRC register after command and address.
 fn head_register(mode: WriteMode, target: Target) -> u16
-    ensures { result ≡ crc16Of (head_of mode target) }
+    ensures { result ≡ crc16_of (head_of mode target) }
 {
     let a = address_of(target);
     let c = base_crc::crc16::byte(0, command(mode, target));
@@ -239,7 +239,7 @@ fn head_register(mode: WriteMode, target: Target) -> u16
 // The register before byte number j of a write: that of command and address, and then the raised address, loaded.
 fn register_at(mode: WriteMode, target: Target, j: u16) -> u16
     requires { address_of target + j < 65536 }
-    ensures { result ≡ registerAt (address_of target) (crc16Of (head_of mode target)) j }
+    ensures { result ≡ register_at (address_of target) (crc16_of (head_of mode target)) j }
 {
     if j < 1 {
         head_register(mode, target)
@@ -264,7 +264,7 @@ fn number_at(kind: UpdateKind, i: u16) -> u16
 // Event i of a write whose byte with that number is this one.
 fn write_at(kind: UpdateKind, target: Target, old: u8, byte: u8, i: u16) -> Step
     requires { address_of target < 32768 }
-    ensures { result ≡ writeAt kind target old byte i }
+    ensures { result ≡ write_at kind target old byte i }
 {
     let mode = kind.mode;
     let head = kind::head_count(kind);
@@ -321,7 +321,7 @@ fn part_at(kind: UpdateKind, k: u16) -> Part
 
 // Event number k, counted from 0, of the plan that puts the bytes new into page t in the place of page l; used is t's bitmap byte.
 pub fn step_at(kind: UpdateKind, l: Page, t: Page, used: u8, new: [u8; 32], k: u16) -> Step
-    ensures { result ≡ get_or (plan_of kind l.0 t.0 used new) k resetStep }
+    ensures { result ≡ get_or (plan_of kind l.0 t.0 used new) k reset_step }
 {
     match part_at(kind, k) {
         Part::Bitmap(i) => write_at(

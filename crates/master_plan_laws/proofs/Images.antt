@@ -16,66 +16,66 @@ use Rattle.base_types.specs.declared.address.Target.{Target}
 use Rattle.base_types.specs.declared.address.Target.TheVariants.{Data, Status}
 use Rattle.chip_memory.specs.declared.layout.Field.{Field}
 use Rattle.chip_memory.specs.declared.layout.Field.TheVariants.{DataProtection, RedirectionProtection, UsedPages}
-use Rattle.chip_memory.specs.Layout.{imageSize, statusIndex, firstAddress, isWithin, is_held}
-use Rattle.chip_memory.specs.Image.{dataByte, statusByte, targetByte, pageBit, redirectionOf, pageBytes}
-use Rattle.chip_memory.specs.Page.{isBlank}
-use Rattle.chip_memory.specs.Write.{bit_of, statusWritable, isWritable, index_of, programmed}
+use Rattle.chip_memory.specs.Layout.{image_size, status_index, first_address, is_within, is_held}
+use Rattle.chip_memory.specs.Image.{data_byte, status_byte, target_byte, page_bit, redirection_of, page_bytes}
+use Rattle.chip_memory.specs.Page.{is_blank}
+use Rattle.chip_memory.specs.Write.{bit_of, status_writable, is_writable, index_of, programmed}
 use Rattle.chip_memory.proofs.Gaps.{redirection-held}
 use Rattle.chip_memory.proofs.Pages.{page-length}
 use Rattle.chip_memory.proofs.Sizes.{first-low}
-use Rattle.chip_stage.specs.Limits.{targetAt}
+use Rattle.chip_stage.specs.Limits.{target_at}
 use Rattle.chip_chain.specs.Free.{Free}
 use Rattle.base_types.proofs.Scan.{both_true}
-use Rattle.chip_chain_laws.specs.Update.{bitmapIndex, storedFrom, bitCleared, pageFilled, linked}
+use Rattle.chip_chain_laws.specs.Update.{bitmap_index, stored_from, bit_cleared, page_filled, linked}
 use Rattle.chip_chain_laws.proofs.Images.{Accepted, bytes-before}
 use Rattle.chip_chain_laws.proofs.Stores.{stored-length}
-use Rattle.master_plan.specs.Places.{bitmapAddress, clearing, redirectionAddress, naming}
-use Rattle.master_publisher.specs.Start.{bitmapByte}
+use Rattle.master_plan.specs.Places.{bitmap_address, clearing, redirection_address, naming}
+use Rattle.master_publisher.specs.Start.{bitmap_byte}
 
 -- t's bitmap byte, with its bit cleared
-abbrev pub clearedByte : ℕ → List ℕ → ℕ → ℕ
-clearedByte n img t = bit_and (bitmapByte n img t) (clearing t)
+abbrev pub cleared_byte : ℕ → List ℕ → ℕ → ℕ
+cleared_byte n img t = bit_and (bitmap_byte n img t) (clearing t)
 
 -- the image with that bit cleared and k new bytes written, and the image with the redirection byte written as well
 abbrev pub written : ℕ → List ℕ → List ℕ → ℕ → ℕ → List ℕ
-written n img new t k = pageFilled n img t (clearedByte n img t) new k
+written n img new t k = page_filled n img t (cleared_byte n img t) new k
 
-abbrev pub linkedImage : ℕ → List ℕ → List ℕ → ℕ → ℕ → List ℕ
-linkedImage n img new l t = linked n img l t (clearedByte n img t) new
+abbrev pub linked_image : ℕ → List ℕ → List ℕ → ℕ → ℕ → List ℕ
+linked_image n img new l t = linked n img l t (cleared_byte n img t) new
 
 -- over FFh the byte sent is what stands there afterwards
 over_ones : (byte : ℕ) → byte < 256 → bit_and 255 byte ≡ byte
 over_ones byte lt = and_comm 255 byte ∙ and_mask byte 8 ∙ mod-eq_of_lt lt
 
 -- every byte of a blank page is FFh
-blank-at : (bs : List ℕ) → isBlank bs ≡ true → (i : ℕ) → i < length bs → get_or bs i 0 ≡ 255
-unfolding isBlank
+blank-at : (bs : List ℕ) → is_blank bs ≡ true → (i : ℕ) → i < length bs → get_or bs i 0 ≡ 255
+unfolding is_blank
 blank-at [] e i lt = absurd (not-suc-le-zero lt)
-blank-at (b ∷ bs) e zero lt = eqb-true b 255 (both_true (eqb b 255) (isBlank bs) e).0
-blank-at (b ∷ bs) e (suc i) lt = blank-at bs (both_true (eqb b 255) (isBlank bs) e).1 i (le_of_suc-le-suc lt)
+blank-at (b ∷ bs) e zero lt = eqb-true b 255 (both_true (eqb b 255) (is_blank bs) e).0
+blank-at (b ∷ bs) e (suc i) lt = blank-at bs (both_true (eqb b 255) (is_blank bs) e).1 i (le_of_suc-le-suc lt)
 
 module _ (n : ℕ) where
   -- ---- a target that can be written
 
-  programs : (img : List ℕ) (t : Target) (byte : ℕ) → isWritable n img t ≡ true
+  programs : (img : List ℕ) (t : Target) (byte : ℕ) → is_writable n img t ≡ true
       → programmed n img t byte ≡ set img (index_of n t) (bit_and (get_or img (index_of n t) 0) byte)
   unfolding programmed
   programs img t byte w = simp w
 
-  over-blank : (img : List ℕ) (t : Target) (byte : ℕ) → isWritable n img t ≡ true → get_or img (index_of n t) 0 ≡ 255 → byte < 256
+  over-blank : (img : List ℕ) (t : Target) (byte : ℕ) → is_writable n img t ≡ true → get_or img (index_of n t) 0 ≡ 255 → byte < 256
       → programmed n img t byte ≡ set img (index_of n t) byte
   over-blank img t byte w e lt = programs img t byte w ∙ ap (λ x. set img (index_of n t) (bit_and x byte)) e ∙ ap (set img (index_of n t)) (over_ones byte lt)
 
-  data-back : (img : List ℕ) (a v : ℕ) → a < 32 * n → a < length img → targetByte n (set img a v) (targetAt DataSpace a) ≡ v
-  unfolding targetByte targetAt dataByte
+  data-back : (img : List ℕ) (a v : ℕ) → a < 32 * n → a < length img → target_byte n (set img a v) (target_at DataSpace a) ≡ v
+  unfolding target_byte target_at data_byte
   data-back img a v lt inside = simp (lt-ltb a (32 * n) lt) (get_or-set_same img a v 0 inside)
 
-  status-back : (img : List ℕ) (a v : ℕ) → is_held n a ≡ true → statusIndex n a < length img → targetByte n (set img (statusIndex n a) v) (Status (record { 0 = a })) ≡ v
-  unfolding targetByte statusByte
-  status-back img a v h inside = simp h (get_or-set_same img (statusIndex n a) v 0 inside)
+  status-back : (img : List ℕ) (a v : ℕ) → is_held n a ≡ true → status_index n a < length img → target_byte n (set img (status_index n a) v) (Status (record { 0 = a })) ≡ v
+  unfolding target_byte status_byte
+  status-back img a v h inside = simp h (get_or-set_same img (status_index n a) v 0 inside)
 
-  bitmap-held : n % 8 ≡ 0 → n ≤ 256 → (t : ℕ) → t < n → is_held n (bitmapAddress t).0 ≡ true
-  unfolding is_held isWithin firstAddress
+  bitmap-held : n % 8 ≡ 0 → n ≤ 256 → (t : ℕ) → t < n → is_held n (bitmap_address t).0 ≡ true
+  unfolding is_held is_within first_address
   bitmap-held whole low t lt =
       simp (
         lt-ltb (0x40 + t / 8) 0x100 (omega arith),
@@ -88,81 +88,81 @@ module _ (n : ℕ) where
       )
 
 module _ (n : ℕ) (whole : n % 8 ≡ 0) (img new : List ℕ) (l t : ℕ) (ok : Accepted n img new l t) (free : Free n img t)
-    (unprotected : pageBit n RedirectionProtection img l ≡ true) (small : (i : ℕ) → get_or new i 0 < 256) where
-  written-length : (k : ℕ) → length (written n img new t k) ≡ imageSize n
+    (unprotected : page_bit n RedirectionProtection img l ≡ true) (small : (i : ℕ) → get_or new i 0 < 256) where
+  written-length : (k : ℕ) → length (written n img new t k) ≡ image_size n
   written-length k =
-      stored-length n (bitCleared n img t (clearedByte n img t)) new t k ∙ length-set img (bitmapIndex n t) (clearedByte n img t) ∙ ok.size
+      stored-length n (bit_cleared n img t (cleared_byte n img t)) new t k ∙ length-set img (bitmap_index n t) (cleared_byte n img t) ∙ ok.size
 
   -- ---- t's bitmap bit
 
-  pub clears : programmed n img (Status (bitmapAddress t)) (clearing t) ≡ written n img new t 0
-  unfolding isWritable statusWritable index_of bitmapByte firstAddress storedFrom
+  pub clears : programmed n img (Status (bitmap_address t)) (clearing t) ≡ written n img new t 0
+  unfolding is_writable status_writable index_of bitmap_byte first_address stored_from
   clears =
-      programs n img (Status (bitmapAddress t)) (clearing t)
+      programs n img (Status (bitmap_address t)) (clearing t)
       (simp (lt-ltb (0x40 + t / 8) 0x100 (omega arith), bitmap-held n whole ok.count t ok.target))
 
-  pub clears-back : targetByte n (written n img new t 0) (Status (bitmapAddress t)) ≡ bit_and (bitmapByte n img t) (clearing t)
-  unfolding bitmapByte storedFrom
+  pub clears-back : target_byte n (written n img new t 0) (Status (bitmap_address t)) ≡ bit_and (bitmap_byte n img t) (clearing t)
+  unfolding bitmap_byte stored_from
   clears-back =
-      status-back n img (bitmapAddress t).0 (clearedByte n img t) (bitmap-held n whole ok.count t ok.target) (omega (arith, first-low UsedPages))
+      status-back n img (bitmap_address t).0 (cleared_byte n img t) (bitmap-held n whole ok.count t ok.target) (omega (arith, first-low UsedPages))
 
   -- ---- the bytes of page t
 
   -- what is not yet written of page t is as it was, and so FFh
-  ahead : (j k : ℕ) → j ≤ k → get_or (written n img new t j) (32 * t + k) 0 ≡ get_or (bitCleared n img t (clearedByte n img t)) (32 * t + k) 0
-  unfolding storedFrom
+  ahead : (j k : ℕ) → j ≤ k → get_or (written n img new t j) (32 * t + k) 0 ≡ get_or (bit_cleared n img t (cleared_byte n img t)) (32 * t + k) 0
+  unfolding stored_from
   ahead zero k le = refl
   ahead (suc j) k le = get_or-set_other (written n img new t j) (32 * t + j) (32 * t + k) (get_or new j 0) 0 (omega arith) ∙ ahead j k (omega arith)
 
   was-blank : (k : ℕ) → k < 32 → get_or (written n img new t k) (32 * t + k) 0 ≡ 255
-  unfolding pageBytes
+  unfolding page_bytes
   was-blank k lt =
       ahead k k (omega arith)
-      ∙ get_or-set_other img (bitmapIndex n t) (32 * t + k) (clearedByte n img t) 0 (omega arith)
+      ∙ get_or-set_other img (bitmap_index n t) (32 * t + k) (cleared_byte n img t) 0 (omega arith)
       ∙ sym (get_or-take 32 (drop (32 * t) img) k 0 lt ∙ get_or-drop (32 * t) img k 0)
-      ∙ blank-at (pageBytes img t) free.blank k (omega (arith, page-length n img t ok.size ok.target))
+      ∙ blank-at (page_bytes img t) free.blank k (omega (arith, page-length n img t ok.size ok.target))
 
   -- the protection bits are as they were at every stage
-  bits-kept : (f : Field) (k p : ℕ) → firstAddress f ≤ 32 → p < n → k ≤ 32 → pageBit n f (written n img new t k) p ≡ pageBit n f img p
-  unfolding pageBit storedFrom
+  bits-kept : (f : Field) (k p : ℕ) → first_address f ≤ 32 → p < n → k ≤ 32 → page_bit n f (written n img new t k) p ≡ page_bit n f img p
+  unfolding page_bit stored_from
   bits-kept f zero p le lt lk =
-      ap (λ x. bit_at x (p % 8)) (get_or-set_other img (bitmapIndex n t) (statusIndex n (firstAddress f + p / 8)) (clearedByte n img t) 0
-      (unfold firstAddress in omega arith))
+      ap (λ x. bit_at x (p % 8)) (get_or-set_other img (bitmap_index n t) (status_index n (first_address f + p / 8)) (cleared_byte n img t) 0
+      (unfold first_address in omega arith))
   bits-kept f (suc k) p le lt lk =
-      ap (λ x. bit_at x (p % 8)) (get_or-set_other (written n img new t k) (32 * t + k) (statusIndex n (firstAddress f + p / 8)) (get_or new k 0) 0 (omega arith))
+      ap (λ x. bit_at x (p % 8)) (get_or-set_other (written n img new t k) (32 * t + k) (status_index n (first_address f + p / 8)) (get_or new k 0) 0 (omega arith))
       ∙ bits-kept f k p le lt (omega arith)
 
-  fill-open : (k : ℕ) → k < 32 → isWritable n (written n img new t k) (targetAt DataSpace (32 * t + k)) ≡ true
-  unfolding isWritable targetAt bit_of
+  fill-open : (k : ℕ) → k < 32 → is_writable n (written n img new t k) (target_at DataSpace (32 * t + k)) ≡ true
+  unfolding is_writable target_at bit_of
   fill-open k lt =
       let p : (32 * t + k) / 32 ≡ t = omega arith in
-      rw p (simp (lt-ltb t n ok.target) (bits-kept DataProtection k t (unfold firstAddress in omega arith) ok.target (omega arith) ∙ free.unprotected))
+      rw p (simp (lt-ltb t n ok.target) (bits-kept DataProtection k t (unfold first_address in omega arith) ok.target (omega arith) ∙ free.unprotected))
 
-  pub fills : (k : ℕ) → k < 32 → programmed n (written n img new t k) (targetAt DataSpace (32 * t + k)) (get_or new k 0) ≡ written n img new t (suc k)
-  unfolding index_of targetAt storedFrom
-  fills k lt = over-blank n (written n img new t k) (targetAt DataSpace (32 * t + k)) (get_or new k 0) (fill-open k lt) (was-blank k lt) (small k)
+  pub fills : (k : ℕ) → k < 32 → programmed n (written n img new t k) (target_at DataSpace (32 * t + k)) (get_or new k 0) ≡ written n img new t (suc k)
+  unfolding index_of target_at stored_from
+  fills k lt = over-blank n (written n img new t k) (target_at DataSpace (32 * t + k)) (get_or new k 0) (fill-open k lt) (was-blank k lt) (small k)
 
-  pub fills-back : (k : ℕ) → k < 32 → targetByte n (written n img new t (suc k)) (targetAt DataSpace (32 * t + k)) ≡ bit_and 255 (get_or new k 0)
-  unfolding storedFrom
+  pub fills-back : (k : ℕ) → k < 32 → target_byte n (written n img new t (suc k)) (target_at DataSpace (32 * t + k)) ≡ bit_and 255 (get_or new k 0)
+  unfolding stored_from
   fills-back k lt =
       data-back n (written n img new t k) (32 * t + k) (get_or new k 0) (omega arith) (omega (arith, written-length k)) ∙ sym (over_ones (get_or new k 0) (small k))
 
   -- ---- l's redirection byte
 
-  link-open : isWritable n (written n img new t 32) (Status (redirectionAddress l)) ≡ true
-  unfolding isWritable statusWritable bit_of
+  link-open : is_writable n (written n img new t 32) (Status (redirection_address l)) ≡ true
+  unfolding is_writable status_writable bit_of
   link-open =
       let p : 0x100 + l - 0x100 ≡ l = omega arith in
       simp (le-ltb (0x100 + l) 0x100 (omega arith), p, lt-ltb l n ok.superseded)
-      (bits-kept RedirectionProtection 32 l (unfold firstAddress in omega arith) ok.superseded (omega arith) ∙ unprotected)
+      (bits-kept RedirectionProtection 32 l (unfold first_address in omega arith) ok.superseded (omega arith) ∙ unprotected)
 
-  pub links : programmed n (written n img new t 32) (Status (redirectionAddress l)) (naming t).0 ≡ linkedImage n img new l t
-  unfolding index_of redirectionOf
+  pub links : programmed n (written n img new t 32) (Status (redirection_address l)) (naming t).0 ≡ linked_image n img new l t
+  unfolding index_of redirection_of
   links =
-      over-blank n (written n img new t 32) (Status (redirectionAddress l)) (255 - t) link-open
-      (ap (λ b. b l) (bytes-before n img new l t (clearedByte n img t) ok 32 (omega arith)) ∙ ok.superseded-valid) (omega arith)
+      over-blank n (written n img new t 32) (Status (redirection_address l)) (255 - t) link-open
+      (ap (λ b. b l) (bytes-before n img new l t (cleared_byte n img t) ok 32 (omega arith)) ∙ ok.superseded-valid) (omega arith)
 
-  pub links-back : targetByte n (linkedImage n img new l t) (Status (redirectionAddress l)) ≡ bit_and 255 (naming t).0
+  pub links-back : target_byte n (linked_image n img new l t) (Status (redirection_address l)) ≡ bit_and 255 (naming t).0
   links-back =
-      status-back n (written n img new t 32) (redirectionAddress l).0 (255 - t) (redirection-held n (redirectionAddress l).0 (omega arith) (omega arith)) (omega (arith, written-length 32))
+      status-back n (written n img new t 32) (redirection_address l).0 (255 - t) (redirection-held n (redirection_address l).0 (omega arith) (omega arith)) (omega (arith, written-length 32))
       ∙ sym (over_ones (255 - t) (omega arith))

@@ -13,8 +13,8 @@ use Rattle.base_types.specs.declared.address.Page.{Page}
 use Rattle.base_types.specs.declared.verdict.Verdict.{Verdict}
 use Rattle.base_types.specs.declared.verdict.Verdict.TheVariants.{Final, Loop, Outside}
 use Rattle.chip_memory.specs.declared.layout.Field.TheVariants.{DataProtection, RedirectionProtection}
-use Rattle.chip_memory.specs.Layout.{imageSize, isImage, isPage}
-use Rattle.chip_memory.specs.Image.{redirectionOf, pageBit}
+use Rattle.chip_memory.specs.Layout.{image_size, is_image, is_page}
+use Rattle.chip_memory.specs.Image.{redirection_of, page_bit}
 use Rattle.chip_memory.proofs.Sizes.{image-length, page-below}
 use Rattle.chip_chain.specs.declared.free.Found.{Found}
 use Rattle.chip_chain.specs.declared.free.Found.TheVariants.{At, Nothing}
@@ -31,10 +31,10 @@ use Rattle.master_plan.specs.declared.kind.UpdateKind.{UpdateKind}
 use Rattle.master_publisher.specs.declared.PublisherStop.{PublisherStop}
 use Rattle.master_publisher.specs.declared.PublisherStop.TheVariants.{ImageLength, PageNumber, Loop as Looping, Outside as Leaving, NoFreePage}
 use Rattle.master_publisher.specs.declared.PublisherStop.TheVariants.{RedirectionProtected, BufferLength, DataProtected}
-use Rattle.master_publisher.specs.Stop.{publisherRefusal}
+use Rattle.master_publisher.specs.Stop.{publisher_refusal}
 use Rattle.master_publisher.specs.declared.Choice.{Choice}
 use Rattle.master_publisher.specs.declared.Choice.TheVariants.{Refused, Accepted as Chosen}
-use Rattle.master_publisher.specs.Start.{targetBy, foundChoice, choiceFree, choiceFinal, choiceWalked, choice_of, choiceOutcome, publisherAnswer}
+use Rattle.master_publisher.specs.Start.{target_by, found_choice, choice_free, choice_final, choice_walked, choice_of, choice_outcome, publisher_answer}
 use Rattle.master_plan_laws.specs.Start.{Open, Closed, StartLaws}
 
 -- what a placement chooses is a free page of the chip other than l
@@ -43,7 +43,7 @@ pub record Placed (n : ℕ) (img : List ℕ) (l t : ℕ) : Type 0 where
   pub free : Free n img t
   pub apart : t ≡ l → ⊥
 
-pub placed-means : (place : Placement) (n : ℕ) (img : List ℕ) (l t : ℕ) → targetBy place n img l ≡ At (record { 0 = t }) → Placed n img l t
+pub placed-means : (place : Placement) (n : ℕ) (img : List ℕ) (l t : ℕ) → target_by place n img l ≡ At (record { 0 = t }) → Placed n img l t
 placed-means LowestFree n img l t f = let m = found-means n img l t f in record { on-chip = m.on-chip; free = m.free; apart = m.apart }
 
 module _ (l t : Page) where
@@ -55,24 +55,24 @@ module _ (l t : Page) where
   passed true x r h = (refl, h)
   passed false x r h = not_chosen r h
 
-  free-found : (m : Page) (f : Found) → foundChoice m f ≡ Chosen l t → (m ≡ l) × (f ≡ At t)
-  unfolding foundChoice
+  free-found : (m : Page) (f : Found) → found_choice m f ≡ Chosen l t → (m ≡ l) × (f ≡ At t)
+  unfolding found_choice
   free-found m (At q) h = (cc, cc)
   free-found m Nothing h = not_chosen NoFreePage h
 
   pub chosen-means : (n : ℕ) (kind : UpdateKind) (img new : List ℕ) (p : ℕ) → choice_of n kind.placement img new p ≡ Chosen l t → Open n kind img new p l t
-  unfolding choice_of choiceWalked choiceFinal choiceFree
+  unfolding choice_of choice_walked choice_final choice_free
   chosen-means n kind img new p h =
-      let a = passed (isImage n img) _ ImageLength h in
+      let a = passed (is_image n img) _ ImageLength h in
       let b = passed (eqb (length new) 32) _ BufferLength a.1 in
-      let c = passed (isPage n p) _ PageNumber b.1 in
+      let c = passed (is_page n p) _ PageNumber b.1 in
       walked (image-length n img a.0) (eqb-true (length new) 32 b.0) (page-below n p c.0) (walk_of n img p) refl c.1
     where
-      walked : length img ≡ imageSize n → length new ≡ 32 → p < n → (v : Verdict) → walk_of n img p ≡ v → choiceWalked n kind.placement img v ≡ Chosen l t → Open n kind img new p l t
+      walked : length img ≡ image_size n → length new ≡ 32 → p < n → (v : Verdict) → walk_of n img p ≡ v → choice_walked n kind.placement img v ≡ Chosen l t → Open n kind img new p l t
       walked a b c (Final m k) w r =
-          let d = passed (pageBit n DataProtection img m.0) _ (DataProtected m) r in
-          let o = passed (pageBit n RedirectionProtection img m.0) _ (RedirectionProtected m) d.1 in
-          let f = free-found m (targetBy kind.placement n img m.0) o.1 in
+          let d = passed (page_bit n DataProtection img m.0) _ (DataProtected m) r in
+          let o = passed (page_bit n RedirectionProtection img m.0) _ (RedirectionProtected m) d.1 in
+          let f = free-found m (target_by kind.placement n img m.0) o.1 in
           let found : Open n kind img new p m t = record { hops = k; size = a; long = b; on-chip = c; walk = w; data-open = d.0; redirection-open = o.0; found = f.1 } in
           rw f.0 at found
       walked a b c Loop w r = not_chosen Looping r
@@ -84,106 +84,106 @@ module _ (n : ℕ) (kind : UpdateKind) (img new : List ℕ) (p : ℕ) (l t : Pag
       let placed = placed-means kind.placement n img l.0 t.0 m.found in
       accepted n img new p l.0 m.hops t.0 m.size low m.long m.on-chip m.walk placed.on-chip placed.free placed.apart
 
-  pub is_free : Free n img t.0
-  is_free = (placed-means kind.placement n img l.0 t.0 m.found).free
+  pub is_free_lem : Free n img t.0
+  is_free_lem = (placed-means kind.placement n img l.0 t.0 m.found).free
 
   -- t ends at itself, and p at l
-  elsewhere : (h : ℕ) → EndsFinal (redirectionOf n img) n p l.0 h → p ≡ t.0 → ⊥
+  elsewhere : (h : ℕ) → EndsFinal (redirection_of n img) n p l.0 h → p ≡ t.0 → ⊥
   elsewhere zero e z = is-accepted.apart (sym z ∙ e.there)
-  elsewhere (suc h) e z = (e.before 0 (omega arith)).redirected (ap (redirectionOf n img) z ∙ is-accepted.target-valid)
+  elsewhere (suc h) e z = (e.before 0 (omega arith)).redirected (ap (redirection_of n img) z ∙ is-accepted.target-valid)
 
   pub not-target : p ≡ t.0 → ⊥
   unfolding walk_of
-  not-target = elsewhere m.hops ((final-means (redirectionOf n img) n p l.0 m.hops m.on-chip).0 m.walk)
+  not-target = elsewhere m.hops ((final-means (redirection_of n img) n p l.0 m.hops m.on-chip).0 m.walk)
 
 -- ---- the start's answer
 
 module _ (n : ℕ) (kind : UpdateKind) (img new : List ℕ) (p : ℕ) where
   -- the tests before the walk pass
-  walked : length img ≡ imageSize n → length new ≡ 32 → p < n → choice_of n kind.placement img new p ≡ choiceWalked n kind.placement img (walk_of n img p)
-  unfolding choice_of isImage isPage
-  walked size long low = simp (eq-eqb (length img) (imageSize n) size, eq-eqb (length new) 32 long, lt-ltb p n low)
+  walked : length img ≡ image_size n → length new ≡ 32 → p < n → choice_of n kind.placement img new p ≡ choice_walked n kind.placement img (walk_of n img p)
+  unfolding choice_of is_image is_page
+  walked size long low = simp (eq-eqb (length img) (image_size n) size, eq-eqb (length new) 32 long, lt-ltb p n low)
 
   chooses : (l t : Page) → Open n kind img new p l t → choice_of n kind.placement img new p ≡ Chosen l t
-  unfolding choiceWalked choiceFinal choiceFree foundChoice
+  unfolding choice_walked choice_final choice_free found_choice
   chooses l t o = walked o.size o.long o.on-chip ∙ simp (o.walk, o.data-open, o.redirection-open, o.found)
 
-  closing : (values : List ℕ) → length img ≡ imageSize n → length new ≡ 32 → p < n → Closed n img p values → publisherAnswer n kind img new p ≡ refused 20 values
-  unfolding choiceWalked choiceFinal
-  closing values size long low c = ap choiceOutcome (walked size long low) ∙ simp (c.walk, c.protected, c.given)
+  closing : (values : List ℕ) → length img ≡ image_size n → length new ≡ 32 → p < n → Closed n img p values → publisher_answer n kind img new p ≡ refused 20 values
+  unfolding choice_walked choice_final
+  closing values size long low c = ap choice_outcome (walked size long low) ∙ simp (c.walk, c.protected, c.given)
 
   -- ---- the other refusals, in their order
 
-  other-image : (length img ≡ imageSize n → ⊥) → publisherAnswer n kind img new p ≡ refused 1 []
-  unfolding choice_of isImage
-  other-image size = simp (ne_eqb (length img) (imageSize n) size)
+  other-image : (length img ≡ image_size n → ⊥) → publisher_answer n kind img new p ≡ refused 1 []
+  unfolding choice_of is_image
+  other-image size = simp (ne_eqb (length img) (image_size n) size)
 
-  other-new : length img ≡ imageSize n → (length new ≡ 32 → ⊥) → publisherAnswer n kind img new p ≡ refused 10 []
-  unfolding choice_of isImage
-  other-new size long = simp (eq-eqb (length img) (imageSize n) size, ne_eqb (length new) 32 long)
+  other-new : length img ≡ image_size n → (length new ≡ 32 → ⊥) → publisher_answer n kind img new p ≡ refused 10 []
+  unfolding choice_of is_image
+  other-new size long = simp (eq-eqb (length img) (image_size n) size, ne_eqb (length new) 32 long)
 
-  other-page : length img ≡ imageSize n → length new ≡ 32 → n ≤ p → publisherAnswer n kind img new p ≡ refused 3 []
-  unfolding choice_of isImage isPage
-  other-page size long high = simp (eq-eqb (length img) (imageSize n) size, eq-eqb (length new) 32 long, le-ltb p n high)
+  other-page : length img ≡ image_size n → length new ≡ 32 → n ≤ p → publisher_answer n kind img new p ≡ refused 3 []
+  unfolding choice_of is_image is_page
+  other-page size long high = simp (eq-eqb (length img) (image_size n) size, eq-eqb (length new) 32 long, le-ltb p n high)
 
-  module _ (size : length img ≡ imageSize n) (long : length new ≡ 32) (low : p < n) where
-    looping : walk_of n img p ≡ Loop → publisherAnswer n kind img new p ≡ refused 4 []
-    unfolding choiceWalked
-    looping w = ap choiceOutcome (walked size long low) ∙ simp w
+  module _ (size : length img ≡ image_size n) (long : length new ≡ 32) (low : p < n) where
+    looping : walk_of n img p ≡ Loop → publisher_answer n kind img new p ≡ refused 4 []
+    unfolding choice_walked
+    looping w = ap choice_outcome (walked size long low) ∙ simp w
 
-    leaving : (x : ℕ) → walk_of n img p ≡ Outside x → publisherAnswer n kind img new p ≡ refused 5 (x ∷ [])
-    unfolding choiceWalked
-    leaving x w = ap choiceOutcome (walked size long low) ∙ simp w
+    leaving : (x : ℕ) → walk_of n img p ≡ Outside x → publisher_answer n kind img new p ≡ refused 5 (x ∷ [])
+    unfolding choice_walked
+    leaving x w = ap choice_outcome (walked size long low) ∙ simp w
 
-    guarded : (l : Page) (hops : ℕ) → walk_of n img p ≡ Final l hops → pageBit n DataProtection img l.0 ≡ true → pageBit n RedirectionProtection img l.0 ≡ false
-        → publisherAnswer n kind img new p ≡ refused 9 (l.0 ∷ [])
-    unfolding choiceWalked choiceFinal
-    guarded l hops w d r = ap choiceOutcome (walked size long low) ∙ simp (w, d, r)
+    guarded : (l : Page) (hops : ℕ) → walk_of n img p ≡ Final l hops → page_bit n DataProtection img l.0 ≡ true → page_bit n RedirectionProtection img l.0 ≡ false
+        → publisher_answer n kind img new p ≡ refused 9 (l.0 ∷ [])
+    unfolding choice_walked choice_final
+    guarded l hops w d r = ap choice_outcome (walked size long low) ∙ simp (w, d, r)
 
-    all-used : (l : Page) (hops : ℕ) → walk_of n img p ≡ Final l hops → pageBit n DataProtection img l.0 ≡ true → pageBit n RedirectionProtection img l.0 ≡ true
-        → targetBy kind.placement n img l.0 ≡ Nothing → publisherAnswer n kind img new p ≡ refused 8 []
-    unfolding choiceWalked choiceFinal choiceFree foundChoice
-    all-used l hops w d r f = ap choiceOutcome (walked size long low) ∙ simp (w, d, r, f)
+    all-used : (l : Page) (hops : ℕ) → walk_of n img p ≡ Final l hops → page_bit n DataProtection img l.0 ≡ true → page_bit n RedirectionProtection img l.0 ≡ true
+        → target_by kind.placement n img l.0 ≡ Nothing → publisher_answer n kind img new p ≡ refused 8 []
+    unfolding choice_walked choice_final choice_free found_choice
+    all-used l hops w d r f = ap choice_outcome (walked size long low) ∙ simp (w, d, r, f)
 
   -- ---- 20 is told by one test alone
 
   module _ (values : List ℕ) where
     abbrev Tells : Choice → Type 0
-    Tells c = choiceOutcome c ≡ refused 20 values
+    Tells c = choice_outcome c ≡ refused 20 values
 
-    told-by : {A : Type 0} (r : PublisherStop) → (number_of (publisherRefusal r) ≡ 20 → ⊥) → Tells (Refused r) → A
+    told-by : {A : Type 0} (r : PublisherStop) → (number_of (publisher_refusal r) ≡ 20 → ⊥) → Tells (Refused r) → A
     told-by r not-20 h = absurd (not-20 cc)
 
     -- a test with another number has held
-    beyond : (b : Bool) (x : Choice) (r : PublisherStop) → (number_of (publisherRefusal r) ≡ 20 → ⊥) → Tells (cond b x (Refused r)) → Tells x
+    beyond : (b : Bool) (x : Choice) (r : PublisherStop) → (number_of (publisher_refusal r) ≡ 20 → ⊥) → Tells (cond b x (Refused r)) → Tells x
     beyond true x r not-20 h = h
     beyond false x r not-20 h = told-by r not-20 h
 
-    free-tells-not : {A : Type 0} (l : Page) (f : Found) → Tells (foundChoice l f) → A
-    unfolding foundChoice
+    free-tells-not : {A : Type 0} (l : Page) (f : Found) → Tells (found_choice l f) → A
+    unfolding found_choice
     free-tells-not l (At t) h = absurd (let z : ◌≡◌ {A = ℕ} 0 1 = cc in omega arith)
     free-tells-not l Nothing h = told-by NoFreePage (λ e. omega arith) h
 
-    final-tells : (l : Page) (hops : ℕ) → walk_of n img p ≡ Final l hops → (bit : Bool) → pageBit n DataProtection img l.0 ≡ bit
-        → Tells (cond bit (cond (pageBit n RedirectionProtection img l.0) (choiceFree n kind.placement img l) (Refused (RedirectionProtected l))) (Refused (DataProtected l)))
+    final-tells : (l : Page) (hops : ℕ) → walk_of n img p ≡ Final l hops → (bit : Bool) → page_bit n DataProtection img l.0 ≡ bit
+        → Tells (cond bit (cond (page_bit n RedirectionProtection img l.0) (choice_free n kind.placement img l) (Refused (RedirectionProtected l))) (Refused (DataProtected l)))
         → Closed n img p values
-    unfolding choiceFree
-    final-tells l hops w true e h = free-tells-not l (targetBy kind.placement n img l.0) (beyond (pageBit n RedirectionProtection img l.0) _ (RedirectionProtected l) (λ e. omega arith) h)
+    unfolding choice_free
+    final-tells l hops w true e h = free-tells-not l (target_by kind.placement n img l.0) (beyond (page_bit n RedirectionProtection img l.0) _ (RedirectionProtected l) (λ e. omega arith) h)
     final-tells l hops w false e h = record { superseded = l; hops = hops; walk = w; protected = e; given = cc }
 
-    walk-tells : (v : Verdict) → walk_of n img p ≡ v → Tells (choiceWalked n kind.placement img v) → Closed n img p values
-    unfolding choiceWalked choiceFinal
-    walk-tells (Final l hops) w h = final-tells l hops w (pageBit n DataProtection img l.0) refl h
+    walk-tells : (v : Verdict) → walk_of n img p ≡ v → Tells (choice_walked n kind.placement img v) → Closed n img p values
+    unfolding choice_walked choice_final
+    walk-tells (Final l hops) w h = final-tells l hops w (page_bit n DataProtection img l.0) refl h
     walk-tells Loop w h = told-by Looping (λ e. omega arith) h
     walk-tells (Outside x) w h = told-by (Leaving x) (λ e. omega arith) h
 
-    tells : publisherAnswer n kind img new p ≡ refused 20 values → Closed n img p values
+    tells : publisher_answer n kind img new p ≡ refused 20 values → Closed n img p values
     unfolding choice_of
     tells h =
         walk-tells (walk_of n img p) refl
-        (beyond (isPage n p) _ PageNumber (λ e. omega arith)
+        (beyond (is_page n p) _ PageNumber (λ e. omega arith)
         (beyond (eqb (length new) 32) _ BufferLength (λ e. omega arith)
-        (beyond (isImage n img) _ ImageLength (λ e. omega arith) h)))
+        (beyond (is_image n img) _ ImageLength (λ e. omega arith) h)))
 
   pub start-laws : StartLaws n kind img new p
   start-laws =

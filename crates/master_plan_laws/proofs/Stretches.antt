@@ -11,10 +11,10 @@ use Rattle.bus_events.specs.Events.{slot, read_slot}
 use Rattle.bus_events.specs.Slots.{slots, reading}
 use Rattle.master_plan.specs.declared.Wanted.{Wanted}
 use Rattle.master_plan.specs.declared.Step.{Step}
-use Rattle.master_plan.specs.Plan.{step, freely, readSteps, stepEvents}
+use Rattle.master_plan.specs.Plan.{step, freely, read_steps, step_events}
 use Rattle.chip_entries.specs.Run.{Chip, next, draws, run, answers, line_of}
 use Rattle.chip_session_laws.specs.Session.{Ready, Reaches}
-use Rattle.chip_session_laws.specs.Laws.{isPulse, isArmed}
+use Rattle.chip_session_laws.specs.Laws.{is_pulse, is_armed}
 use Rattle.chip_session_laws.proofs.Runs.{run-append}
 use Rattle.chip_session_laws.proofs.States.{keeps, image-kept}
 use Rattle.master_plan_laws.specs.Plan.{Meets, Fits}
@@ -25,25 +25,25 @@ Always P n c [] = P c.image
 Always P n c (e ∷ es) = P c.image × Always P n (next n c e) es
 
 pub record Stretch (P : List ℕ → Type 0) (n : ℕ) (c : Chip) (steps : List Step) (d : Chip) : Type 0 where
-  pub path : run n c (stepEvents steps) ≡ d
+  pub path : run n c (step_events steps) ≡ d
   pub fits : Fits n c steps
-  pub kept : Always P n c (stepEvents steps)
+  pub kept : Always P n c (step_events steps)
 
 -- ---- one stretch after the other
 
-pub events-append : (xs ys : List Step) → stepEvents (xs ++ ys) ≡ stepEvents xs ++ stepEvents ys
-unfolding stepEvents
+pub events-append : (xs ys : List Step) → step_events (xs ++ ys) ≡ step_events xs ++ step_events ys
+unfolding step_events
 events-append [] ys = refl
 events-append (x ∷ xs) ys = ap (λ l. x.event ∷ l) (events-append xs ys)
 
-pub events-length : (steps : List Step) → length (stepEvents steps) ≡ length steps
-unfolding stepEvents
+pub events-length : (steps : List Step) → length (step_events steps) ≡ length steps
+unfolding step_events
 events-length [] = refl
 events-length (s ∷ ss) = ap suc (events-length ss)
 
 module _ (n : ℕ) where
-  fits-append : (c : Chip) (xs ys : List Step) → Fits n c xs → Fits n (run n c (stepEvents xs)) ys → Fits n c (xs ++ ys)
-  unfolding Fits run stepEvents
+  fits-append : (c : Chip) (xs ys : List Step) → Fits n c xs → Fits n (run n c (step_events xs)) ys → Fits n c (xs ++ ys)
+  unfolding Fits run step_events
   fits-append c [] ys f g = g
   fits-append c (x ∷ xs) ys f g = (f.0, fits-append (next n c x.event) xs ys f.1 g)
 
@@ -57,11 +57,11 @@ module _ {P : List ℕ → Type 0} {n : ℕ} where
   pub ◌then◌ : {c d e : Chip} {xs ys : List Step} → Stretch P n c xs d → Stretch P n d ys e → Stretch P n c (xs ++ ys) e
   ◌then◌ {c} {d} {e} {xs} {ys} p q =
       record {
-        path = ap (run n c) (events-append xs ys) ∙ run-append n c (stepEvents xs) (stepEvents ys) ∙ ap (λ x. run n x (stepEvents ys)) p.path ∙ q.path;
+        path = ap (run n c) (events-append xs ys) ∙ run-append n c (step_events xs) (step_events ys) ∙ ap (λ x. run n x (step_events ys)) p.path ∙ q.path;
         fits = fits-append n c xs ys p.fits (subst (λ x. Fits n x ys) (sym p.path) q.fits);
         kept =
             subst (Always P n c) (sym (events-append xs ys))
-            (kept_append n P c (stepEvents xs) (stepEvents ys) p.kept (subst (λ x. Always P n x (stepEvents ys)) (sym p.path) q.kept));
+            (kept_append n P c (step_events xs) (step_events ys) p.kept (subst (λ x. Always P n x (step_events ys)) (sym p.path) q.kept));
       }
 
 -- after any number of the events
@@ -84,11 +84,11 @@ ready-run n whole [] c ok = ok
 ready-run n whole (e ∷ es) c ok = ready-run n whole es (next n c e) (keeps n whole c e ok)
 
 pub still-ready : {P : List ℕ → Type 0} {n : ℕ} {c d : Chip} {steps : List Step} → n % 8 ≡ 0 → Ready n c → Stretch P n c steps d → Ready n d
-still-ready {n = n} {c} {d} {steps} whole ok s = subst (Ready n) s.path (ready-run n whole (stepEvents steps) c ok)
+still-ready {n = n} {c} {d} {steps} whole ok s = subst (Ready n) s.path (ready-run n whole (step_events steps) c ok)
 
 -- where nothing is said of the image
 pub loosely : {P : List ℕ → Type 0} {n : ℕ} {c d : Chip} {steps : List Step} → Stretch P n c steps d → Stretch (λ _. Unit {0}) n c steps d
-loosely {n = n} {c} {d} {steps} s = record { path = s.path; fits = s.fits; kept = any-image n (stepEvents steps) c }
+loosely {n = n} {c} {d} {steps} s = record { path = s.path; fits = s.fits; kept = any-image n (step_events steps) c }
 
 -- ---- from a run and its replies
 
@@ -96,11 +96,11 @@ loosely {n = n} {c} {d} {steps} s = record { path = s.path; fits = s.fits; kept 
 unfoldable pub Quiet : List Step → List Bool → Type 0
 Quiet [] rs = Unit {0}
 Quiet (s ∷ ss) [] = ⊥
-Quiet (s ∷ ss) (r ∷ rs) = Meets s.wanted r × (isPulse s.event ≡ false) × Quiet ss rs
+Quiet (s ∷ ss) (r ∷ rs) = Meets s.wanted r × (is_pulse s.event ≡ false) × Quiet ss rs
 
 -- slots whose replies are not looked at
-pub free-events : (bs : List Bool) → stepEvents (freely (slots bs)) ≡ slots bs
-unfolding stepEvents
+pub free-events : (bs : List Bool) → step_events (freely (slots bs)) ≡ slots bs
+unfolding step_events
 free-events [] = refl
 free-events (b ∷ bs) = ap (λ l. slot b ∷ l) (free-events bs)
 
@@ -110,39 +110,39 @@ free-quiet [] = tt
 free-quiet (b ∷ bs) = (tt, refl, free-quiet bs)
 
 -- read slots that draw the bits of v
-pub read-events : (last : Bool → Wanted) (k v : ℕ) → stepEvents (readSteps last k v) ≡ reading k
-unfolding stepEvents readSteps
+pub read-events : (last : Bool → Wanted) (k v : ℕ) → step_events (read_steps last k v) ≡ reading k
+unfolding step_events read_steps
 read-events last zero v = refl
 read-events last (suc zero) v = refl
 read-events last (suc (suc k)) v = ap (λ l. read_slot ∷ l) (read-events last (suc k) (v / 2))
 
-pub read-quiet : (last : Bool → Wanted) → ((b : Bool) → Meets (last b) b) → (k v : ℕ) → Quiet (readSteps last k v) (bits_of k v)
-unfolding Quiet readSteps bits_of
+pub read-quiet : (last : Bool → Wanted) → ((b : Bool) → Meets (last b) b) → (k v : ℕ) → Quiet (read_steps last k v) (bits_of k v)
+unfolding Quiet read_steps bits_of
 read-quiet last meets zero v = tt
 read-quiet last meets (suc zero) v = (meets (odd v), refl, tt)
 read-quiet last meets (suc (suc k)) v = (refl, refl, read-quiet last meets (suc k) (v / 2))
 
 module _ (n : ℕ) where
-  fits_by : (c : Chip) (steps : List Step) (rs : List Bool) → answers n c (stepEvents steps) ≡ map accepted rs → Quiet steps rs → Fits n c steps
-  unfolding stepEvents answers Quiet Fits
+  fits_by : (c : Chip) (steps : List Step) (rs : List Bool) → answers n c (step_events steps) ≡ map accepted rs → Quiet steps rs → Fits n c steps
+  unfolding step_events answers Quiet Fits
   fits_by c [] rs e q = tt
   fits_by c (s ∷ ss) [] e q = absurd q
   fits_by c (s ∷ ss) (r ∷ rs) e q =
       let d : draws n c s.event ≡ accepted r = cc in
-      let rest : answers n (next n c s.event) (stepEvents ss) ≡ map accepted rs = cc in
+      let rest : answers n (next n c s.event) (step_events ss) ≡ map accepted rs = cc in
       (subst (λ x. Meets s.wanted (line_of x)) (sym d) q.0, fits_by (next n c s.event) ss rs rest q.2)
 
   -- only a pulse changes the image
-  kept_by : (P : List ℕ → Type 0) (c : Chip) (steps : List Step) (rs : List Bool) → Quiet steps rs → P c.image → Always P n c (stepEvents steps)
-  unfolding stepEvents Quiet Always
+  kept_by : (P : List ℕ → Type 0) (c : Chip) (steps : List Step) (rs : List Bool) → Quiet steps rs → P c.image → Always P n c (step_events steps)
+  unfolding step_events Quiet Always
   kept_by P c [] rs q h = h
   kept_by P c (s ∷ ss) [] q h = absurd q
   kept_by P c (s ∷ ss) (r ∷ rs) q h =
-      let same : (next n c s.event).image ≡ c.image = image-kept n c s.event (ap (λ b. b && isArmed c.state.stage) q.1) in
+      let same : (next n c s.event).image ≡ c.image = image-kept n c s.event (ap (λ b. b && is_armed c.state.stage) q.1) in
       (h, kept_by P (next n c s.event) ss rs q.2 (subst P (sym same) h))
 
 module _ (P : List ℕ → Type 0) {n : ℕ} {c d : Chip} where
-  pub quietly : (steps : List Step) {es : List Event} {rs : List Bool} → stepEvents steps ≡ es → Quiet steps rs → P c.image → Reaches n c es rs d → Stretch P n c steps d
+  pub quietly : (steps : List Step) {es : List Event} {rs : List Bool} → step_events steps ≡ es → Quiet steps rs → P c.image → Reaches n c es rs d → Stretch P n c steps d
   quietly steps {es} {rs} e q h g =
       record {
         path = ap (run n c) e ∙ g.there;
@@ -152,7 +152,7 @@ module _ (P : List ℕ → Type 0) {n : ℕ} {c d : Chip} where
 
   -- the same, for a single event that may be a pulse
   pub singly : (e : Event) (w : Wanted) {r : Bool} → Meets w r → P c.image → P d.image → Reaches n c (e ∷ []) (r ∷ []) d → Stretch P n c (step e w ∷ []) d
-  unfolding stepEvents Fits Always answers run
+  unfolding step_events Fits Always answers run
   singly e w {r} m h h' g =
       let a : draws n c e ≡ accepted r = let t : draws n c e ∷ [] ≡ accepted r ∷ [] = g.told in cc in
       record {

@@ -10,11 +10,11 @@ use Rattle.master_plan.specs.declared.Wanted.{Wanted}
 use Rattle.master_plan.specs.declared.Wanted.TheVariants.{Anything, Presence, Bit, LastCrcBit, LastBackBit}
 use Rattle.master_plan.specs.declared.Step.{Step}
 use Rattle.master_plan.specs.declared.kind.UpdateKind.{UpdateKind}
-use Rattle.master_plan.specs.Kind.{total_of, shownOf}
+use Rattle.master_plan.specs.Kind.{total_of, shown_of}
 use Rattle.master_plan.specs.Places.{clearing}
-use Rattle.master_plan.specs.Plan.{plan_of, stepEvents}
+use Rattle.master_plan.specs.Plan.{plan_of, step_events}
 use Rattle.master_publisher.specs.declared.Choice.TheVariants.{Accepted}
-use Rattle.master_publisher.specs.Start.{choice_of, bitmapByte}
+use Rattle.master_publisher.specs.Start.{choice_of, bitmap_byte}
 use Rattle.chip_entries.specs.Run.{Chip, next, run, line_at}
 use Rattle.chip_session_laws.specs.Session.{Ready, Bytes}
 
@@ -38,13 +38,13 @@ pub record Accepts (n : ℕ) (kind : UpdateKind) (c : Chip) (new : List ℕ) (p 
   pub chosen : choice_of n kind.placement c.image new p ≡ Accepted l t
 
 -- the plan that the start's state has
-abbrev pub planFor : ℕ → UpdateKind → Chip → List ℕ → Page → Page → List Step
-planFor n kind c new l t = plan_of kind l.0 t.0 (bitmapByte n c.image t.0) new
+abbrev pub plan_for : ℕ → UpdateKind → Chip → List ℕ → Page → Page → List Step
+plan_for n kind c new l t = plan_of kind l.0 t.0 (bitmap_byte n c.image t.0) new
 
 -- the image that a whole update leaves, the same in every kind: t's bitmap bit cleared, the new bytes in page t, 255 - t as the
 -- redirection byte of l
-abbrev pub imageLeft : ℕ → List ℕ → List ℕ → Page → Page → List ℕ
-imageLeft n img new l t = linked n img l.0 t.0 (bit_and (bitmapByte n img t.0) (clearing t.0)) new
+abbrev pub image_left : ℕ → List ℕ → List ℕ → Page → Page → List ℕ
+image_left n img new l t = linked n img l.0 t.0 (bit_and (bitmap_byte n img t.0) (clearing t.0)) new
 
 pub record PlanLaws (n : ℕ) (kind : UpdateKind) (c : Chip) (new : List ℕ) (p : ℕ) (l t : Page) : Type 0 where
   -- l is where p ends; t is another page than l and p; the new bytes are 32
@@ -55,14 +55,14 @@ pub record PlanLaws (n : ℕ) (kind : UpdateKind) (c : Chip) (new : List ℕ) (p
   pub apart : p ≡ t.0 → ⊥
   pub long : length new ≡ 32
   -- so many events, and the one that shows is a pulse
-  pub counted : length (planFor n kind c new l t) ≡ total_of kind
-  pub shows : get_or (stepEvents (planFor n kind c new l t)) (shownOf kind - 1) reset ≡ pulse
+  pub counted : length (plan_for n kind c new l t) ≡ total_of kind
+  pub shows : get_or (step_events (plan_for n kind c new l t)) (shown_of kind - 1) reset ≡ pulse
   -- the chip's replies are those that the plan wants
-  pub fits : Fits n c (planFor n kind c new l t)
+  pub fits : Fits n c (plan_for n kind c new l t)
   -- after the first m events, every page but t reads as before while m is below the number of the event that shows; and from it on
   -- each page that ended at l reads Final t, one hop more, and the new bytes, and every other page but t as before
   pub reads : (m q : ℕ) → q < n → (q ≡ t.0 → ⊥)
-      → read_of n (run n c (take m (stepEvents (planFor n kind c new l t)))).image q
-      ≡ cond (ltb m (shownOf kind)) (read_of n c.image q) (moved l.0 t.0 new (read_of n c.image q))
+      → read_of n (run n c (take m (step_events (plan_for n kind c new l t)))).image q
+      ≡ cond (ltb m (shown_of kind)) (read_of n c.image q) (moved l.0 t.0 new (read_of n c.image q))
   -- after all events the image is this one
-  pub leaves : (run n c (stepEvents (planFor n kind c new l t))).image ≡ imageLeft n c.image new l t
+  pub leaves : (run n c (step_events (plan_for n kind c new l t))).image ≡ image_left n c.image new l t

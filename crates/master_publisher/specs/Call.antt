@@ -3,7 +3,7 @@ use Rattle.std.specs.Prelude.{ℕ, Bool, true, false, not, cond, List, [], ◌�
 use Rattle.base_types.specs.Outcome.{Outcome, accepted, refusing, judge}
 use Rattle.base_types.specs.declared.write_mode.WriteMode.{WriteMode}
 use Rattle.base_types.specs.declared.write_mode.WriteMode.TheVariants.{Ordinary, Quick}
-use Rattle.chip_memory.specs.Layout.{isPage}
+use Rattle.chip_memory.specs.Layout.{is_page}
 use Rattle.bus_scripts.specs.Next.{Next, send, tells}
 use Rattle.master_plan.specs.declared.kind.UpdateKind.{UpdateKind}
 use Rattle.master_plan.specs.Kind.{total_of}
@@ -15,49 +15,49 @@ use Rattle.master_publisher.specs.declared.Stage.TheVariants.{Running, Done, Sto
 use Rattle.master_publisher.specs.declared.Publisher.{Publisher}
 use Rattle.master_publisher.specs.declared.Answer.{Answer}
 use Rattle.master_publisher.specs.declared.Answer.TheVariants.{Send, Published, Refused}
-use Rattle.master_publisher.specs.Code.Turn.{planIn, totalIn, turn_of}
+use Rattle.master_publisher.specs.Code.Turn.{plan_in, total_in, turn_of}
 
 -- ---- ranges
 
 -- a mode in which CRCs are read
-abbrev pub readsCrc : WriteMode → Bool
-readsCrc Ordinary = true
-readsCrc Quick = false
+abbrev pub reads_crc : WriteMode → Bool
+reads_crc Ordinary = true
+reads_crc Quick = false
 
 -- what a stopped state can hold: 5 with a number that is no page, 9 and 20 with a page, and 6 where CRCs are read
-abbrev pub stopInRange : WriteMode → ℕ → PublisherStop → Bool
-stopInRange mode n ImageLength = true
-stopInRange mode n PageNumber = true
-stopInRange mode n Loop = true
-stopInRange mode n (Outside x) = not (isPage n x)
-stopInRange mode n Crc16 = readsCrc mode
-stopInRange mode n ReadBack = true
-stopInRange mode n NoFreePage = true
-stopInRange mode n (RedirectionProtected l) = isPage n l.0
-stopInRange mode n BufferLength = true
-stopInRange mode n NoPresence = true
-stopInRange mode n (DataProtected l) = isPage n l.0
+abbrev pub stop_in_range : WriteMode → ℕ → PublisherStop → Bool
+stop_in_range mode n ImageLength = true
+stop_in_range mode n PageNumber = true
+stop_in_range mode n Loop = true
+stop_in_range mode n (Outside x) = not (is_page n x)
+stop_in_range mode n Crc16 = reads_crc mode
+stop_in_range mode n ReadBack = true
+stop_in_range mode n NoFreePage = true
+stop_in_range mode n (RedirectionProtected l) = is_page n l.0
+stop_in_range mode n BufferLength = true
+stop_in_range mode n NoPresence = true
+stop_in_range mode n (DataProtected l) = is_page n l.0
 
-abbrev pub stageInRange : UpdateKind → ℕ → Stage → Bool
-stageInRange kind n (Running k good) = leb k (total_of kind)
-stageInRange kind n Done = true
-stageInRange kind n (Stopped stop) = stopInRange kind.mode n stop
+abbrev pub stage_in_range : UpdateKind → ℕ → Stage → Bool
+stage_in_range kind n (Running k good) = leb k (total_of kind)
+stage_in_range kind n Done = true
+stage_in_range kind n (Stopped stop) = stop_in_range kind.mode n stop
 
-unfoldable pub publisherInRange : ℕ → Publisher → Bool
-publisherInRange n s =
-    cond (isPage n s.superseded.0) (cond (isPage n s.target.0) (stageInRange s.kind n s.stage) false) false
+unfoldable pub publisher_in_range : ℕ → Publisher → Bool
+publisher_in_range n s =
+    cond (is_page n s.superseded.0) (cond (is_page n s.target.0) (stage_in_range s.kind n s.stage) false) false
 
 -- ---- the entry
 
 -- the end tells L and T
-abbrev pub turnOutcome : Answer → Outcome Next
-turnOutcome (Send e) = accepted (send e)
-turnOutcome (Published l t) = accepted (tells (l.0 ∷ t.0 ∷ []))
-turnOutcome (Refused r) = refusing r
+abbrev pub turn_outcome : Answer → Outcome Next
+turn_outcome (Send e) = accepted (send e)
+turn_outcome (Published l t) = accepted (tells (l.0 ∷ t.0 ∷ []))
+turn_outcome (Refused r) = refusing r
 
 -- 2, or the turn's answer
-unfoldable pub callAnswer : ℕ → Publisher → Bool → Outcome Next
-callAnswer n s reply = judge (publisherInRange n s) 2 (turnOutcome (turn_of (totalIn s) (planIn s) s s.stage reply).answer)
+unfoldable pub call_answer : ℕ → Publisher → Bool → Outcome Next
+call_answer n s reply = judge (publisher_in_range n s) 2 (turn_outcome (turn_of (total_in s) (plan_in s) s s.stage reply).answer)
 
-unfoldable pub callState : ℕ → Publisher → Bool → Publisher
-callState n s reply = cond (publisherInRange n s) (turn_of (totalIn s) (planIn s) s s.stage reply).state s
+unfoldable pub call_state : ℕ → Publisher → Bool → Publisher
+call_state n s reply = cond (publisher_in_range n s) (turn_of (total_in s) (plan_in s) s s.stage reply).state s

@@ -5,17 +5,17 @@ use Rattle.base_types.specs.declared.address.Page.{Page}
 use Rattle.base_types.specs.declared.verdict.Verdict.{Verdict}
 use Rattle.base_types.specs.declared.verdict.Verdict.TheVariants.{Final, Loop as Looping, Outside as Leaving}
 use Rattle.chip_memory.specs.declared.layout.Field.TheVariants.{DataProtection, RedirectionProtection}
-use Rattle.chip_memory.specs.Layout.{statusIndex, isImage, isPage}
-use Rattle.chip_memory.specs.Image.{pageBit}
+use Rattle.chip_memory.specs.Layout.{status_index, is_image, is_page}
+use Rattle.chip_memory.specs.Image.{page_bit}
 use Rattle.chip_memory.specs.Page.{copied}
 use Rattle.chip_chain.specs.declared.free.Found.{Found}
 use Rattle.chip_chain.specs.declared.free.Found.TheVariants.{At, Nothing}
 use Rattle.chip_chain.specs.Walk.{walk_of}
-use Rattle.chip_chain.specs.Free.{lowestFree}
+use Rattle.chip_chain.specs.Free.{lowest_free}
 use Rattle.master_plan.specs.declared.kind.Placement.{Placement}
 use Rattle.master_plan.specs.declared.kind.Placement.TheVariants.{LowestFree}
 use Rattle.master_plan.specs.declared.kind.UpdateKind.{UpdateKind}
-use Rattle.master_plan.specs.Places.{bitmapAddress}
+use Rattle.master_plan.specs.Places.{bitmap_address}
 use Rattle.master_publisher.specs.declared.PublisherStop.{PublisherStop}
 use Rattle.master_publisher.specs.declared.PublisherStop.TheVariants.{ImageLength, PageNumber, Loop, Outside, NoFreePage, RedirectionProtected}
 use Rattle.master_publisher.specs.declared.PublisherStop.TheVariants.{BufferLength, DataProtected}
@@ -25,42 +25,42 @@ use Rattle.master_publisher.specs.declared.Stage.TheVariants.{Running, Stopped}
 use Rattle.master_publisher.specs.declared.Publisher.{Publisher}
 use Rattle.master_publisher.specs.declared.StartAnswer.{StartAnswer}
 use Rattle.master_publisher.specs.declared.StartAnswer.TheVariants.{Refused as StartRefused, Ready}
-use Rattle.master_publisher.specs.Stop.{publisherRefusal}
+use Rattle.master_publisher.specs.Stop.{publisher_refusal}
 
 -- ---- L and T: refusals 1, 10, 3, 4, 5, 20, 9, 8, in this order
 
 -- the choice of T by the placement: the lowest free page other than L
-abbrev pub targetBy : Placement → ℕ → List ℕ → ℕ → Found
-targetBy LowestFree n img l = lowestFree n img l
+abbrev pub target_by : Placement → ℕ → List ℕ → ℕ → Found
+target_by LowestFree n img l = lowest_free n img l
 
-unfoldable pub foundChoice : Page → Found → Choice
-foundChoice l (At t) = Accepted l t
-foundChoice l Nothing = Refused NoFreePage
+unfoldable pub found_choice : Page → Found → Choice
+found_choice l (At t) = Accepted l t
+found_choice l Nothing = Refused NoFreePage
 
-unfoldable pub choiceFree : ℕ → Placement → List ℕ → Page → Choice
-choiceFree n place img l = foundChoice l (targetBy place n img l.0)
+unfoldable pub choice_free : ℕ → Placement → List ℕ → Page → Choice
+choice_free n place img l = found_choice l (target_by place n img l.0)
 
 -- a page whose data are protected is not superseded (M-104)
-unfoldable pub choiceFinal : ℕ → Placement → List ℕ → Page → Choice
-choiceFinal n place img l =
-    cond (pageBit n DataProtection img l.0)
-    (cond (pageBit n RedirectionProtection img l.0)
-    (choiceFree n place img l)
+unfoldable pub choice_final : ℕ → Placement → List ℕ → Page → Choice
+choice_final n place img l =
+    cond (page_bit n DataProtection img l.0)
+    (cond (page_bit n RedirectionProtection img l.0)
+    (choice_free n place img l)
     (Refused (RedirectionProtected l)))
     (Refused (DataProtected l))
 
 -- L is the final page of p
-unfoldable pub choiceWalked : ℕ → Placement → List ℕ → Verdict → Choice
-choiceWalked n place img (Final l hops) = choiceFinal n place img l
-choiceWalked n place img Looping = Refused Loop
-choiceWalked n place img (Leaving x) = Refused (Outside x)
+unfoldable pub choice_walked : ℕ → Placement → List ℕ → Verdict → Choice
+choice_walked n place img (Final l hops) = choice_final n place img l
+choice_walked n place img Looping = Refused Loop
+choice_walked n place img (Leaving x) = Refused (Outside x)
 
 unfoldable pub choice_of : ℕ → Placement → List ℕ → List ℕ → ℕ → Choice
 choice_of n place img new p =
-    cond (isImage n img)
+    cond (is_image n img)
     (cond (eqb (length new) 32)
-    (cond (isPage n p)
-    (choiceWalked n place img (walk_of n img p))
+    (cond (is_page n p)
+    (choice_walked n place img (walk_of n img p))
     (Refused PageNumber))
     (Refused BufferLength))
     (Refused ImageLength)
@@ -68,34 +68,34 @@ choice_of n place img new p =
 -- ---- the state
 
 -- the byte with the bitmap bit of page t
-unfoldable pub bitmapByte : ℕ → List ℕ → ℕ → ℕ
-bitmapByte n img t = get_or img (statusIndex n (bitmapAddress t).0) 0
+unfoldable pub bitmap_byte : ℕ → List ℕ → ℕ → ℕ
+bitmap_byte n img t = get_or img (status_index n (bitmap_address t).0) 0
 
 unfoldable pub ready : ℕ → UpdateKind → List ℕ → List ℕ → Page → Page → Publisher
 ready n kind img new l t =
-    record { kind = kind; stage = Running 0 true; superseded = l; target = t; used = bitmapByte n img t.0; new = copied new (replicate 32 0) }
+    record { kind = kind; stage = Running 0 true; superseded = l; target = t; used = bitmap_byte n img t.0; new = copied new (replicate 32 0) }
 
 -- a refused start's state repeats the refusal
-unfoldable pub stoppedBy : UpdateKind → PublisherStop → Publisher
-stoppedBy kind stop =
+unfoldable pub stopped_by : UpdateKind → PublisherStop → Publisher
+stopped_by kind stop =
     record { kind = kind; stage = Stopped stop; superseded = record { 0 = 0 }; target = record { 0 = 0 }; used = 0; new = replicate 32 0 }
 
-unfoldable pub choiceState : ℕ → UpdateKind → List ℕ → List ℕ → Choice → Publisher
-choiceState n kind img new (Refused stop) = stoppedBy kind stop
-choiceState n kind img new (Accepted l t) = ready n kind img new l t
+unfoldable pub choice_state : ℕ → UpdateKind → List ℕ → List ℕ → Choice → Publisher
+choice_state n kind img new (Refused stop) = stopped_by kind stop
+choice_state n kind img new (Accepted l t) = ready n kind img new l t
 
 -- ---- the entry
 
-abbrev pub startOutcome : StartAnswer → Outcome (List ℕ)
-startOutcome (StartRefused r) = refusing r
-startOutcome Ready = accepted []
+abbrev pub start_outcome : StartAnswer → Outcome (List ℕ)
+start_outcome (StartRefused r) = refusing r
+start_outcome Ready = accepted []
 
-abbrev pub choiceOutcome : Choice → Outcome (List ℕ)
-choiceOutcome (Refused stop) = refusing (publisherRefusal stop)
-choiceOutcome (Accepted l t) = accepted []
+abbrev pub choice_outcome : Choice → Outcome (List ℕ)
+choice_outcome (Refused stop) = refusing (publisher_refusal stop)
+choice_outcome (Accepted l t) = accepted []
 
-abbrev pub publisherAnswer : ℕ → UpdateKind → List ℕ → List ℕ → ℕ → Outcome (List ℕ)
-publisherAnswer n kind img new p = choiceOutcome (choice_of n kind.placement img new p)
+abbrev pub publisher_answer : ℕ → UpdateKind → List ℕ → List ℕ → ℕ → Outcome (List ℕ)
+publisher_answer n kind img new p = choice_outcome (choice_of n kind.placement img new p)
 
-abbrev pub publisherState : ℕ → UpdateKind → List ℕ → List ℕ → ℕ → Publisher
-publisherState n kind img new p = choiceState n kind img new (choice_of n kind.placement img new p)
+abbrev pub publisher_state : ℕ → UpdateKind → List ℕ → List ℕ → ℕ → Publisher
+publisher_state n kind img new p = choice_state n kind img new (choice_of n kind.placement img new p)

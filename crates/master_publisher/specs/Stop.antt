@@ -5,15 +5,15 @@ use Rattle.master_publisher.specs.declared.PublisherStop.{PublisherStop}
 use Rattle.master_publisher.specs.declared.PublisherStop.TheVariants.{ImageLength, PageNumber, Loop, Outside, Crc16, ReadBack, NoFreePage}
 use Rattle.master_publisher.specs.declared.PublisherStop.TheVariants.{RedirectionProtected, BufferLength, NoPresence, DataProtected}
 
-abbrev pub publisherRefusal : PublisherStop → Refusal
-publisherRefusal ImageLength = refusals.ImageLength
-publisherRefusal PageNumber = refusals.PageNumber
-publisherRefusal Loop = refusals.Loop
-publisherRefusal (Outside x) = refusals.Outside x
-publisherRefusal Crc16 = refusals.Crc16
-publisherRefusal ReadBack = refusals.ReadBack
-publisherRefusal NoFreePage = refusals.NoFreePage
-publisherRefusal (RedirectionProtected l) = refusals.RedirectionProtected l
-publisherRefusal BufferLength = refusals.BufferLength
-publisherRefusal NoPresence = refusals.NoPresence
-publisherRefusal (DataProtected l) = refusals.DataProtected l
+abbrev pub publisher_refusal : PublisherStop → Refusal
+publisher_refusal ImageLength = refusals.ImageLength
+publisher_refusal PageNumber = refusals.PageNumber
+publisher_refusal Loop = refusals.Loop
+publisher_refusal (Outside x) = refusals.Outside x
+publisher_refusal Crc16 = refusals.Crc16
+publisher_refusal ReadBack = refusals.ReadBack
+publisher_refusal NoFreePage = refusals.NoFreePage
+publisher_refusal (RedirectionProtected l) = refusals.RedirectionProtected l
+publisher_refusal BufferLength = refusals.BufferLength
+publisher_refusal NoPresence = refusals.NoPresence
+publisher_refusal (DataProtected l) = refusals.DataProtected l

@@ -2,13 +2,13 @@
 // The state counts the events that were returned. Each bit that is read is compared with the one that is wanted as it comes, and the
 // CRC or byte is judged at its last bit.
 ghost use Rattle.std.specs.Prelude.{◌≡◌, replicate};
-ghost use Rattle.chip_memory.specs.Layout.{pageCount};
+ghost use Rattle.chip_memory.specs.Layout.{page_count};
 ghost use Rattle.chip_memory.specs.Page.{copied};
-ghost use Rattle.master_publisher.specs.Stop.{publisherRefusal};
-ghost use Rattle.master_publisher.specs.Start.{targetBy, choiceFree, choiceFinal, choiceWalked, choice_of, bitmapByte, ready, stoppedBy, startOutcome};
-ghost use Rattle.master_publisher.specs.Start.{publisherAnswer, publisherState};
-ghost use Rattle.master_publisher.specs.Code.Turn.{planIn, totalIn, step_of, wantedOf, judgedLast, judgedPresence, judgedOf, atStage, goneOn, judgedTurn, turn_of};
-ghost use Rattle.master_publisher.specs.Call.{readsCrc, stopInRange, stageInRange, publisherInRange, turnOutcome, callAnswer, callState};
+ghost use Rattle.master_publisher.specs.Stop.{publisher_refusal};
+ghost use Rattle.master_publisher.specs.Start.{target_by, choice_free, choice_final, choice_walked, choice_of, bitmap_byte, ready, stopped_by, start_outcome};
+ghost use Rattle.master_publisher.specs.Start.{publisher_answer, publisher_state};
+ghost use Rattle.master_publisher.specs.Code.Turn.{plan_in, total_in, step_of, wanted_of, judged_last, judged_presence, judged_of, at_stage, gone_on, judged_turn, turn_of};
+ghost use Rattle.master_publisher.specs.Call.{reads_crc, stop_in_range, stage_in_range, publisher_in_range, turn_outcome, call_answer, call_state};
 
 use base_types::address::Page;
 use base_types::bits;
@@ -40,7 +40,7 @@ pub enum PublisherStop {
 
 // The refusal that tells it.
 pub fn refusal_of(stop: PublisherStop) -> Refusal
-    ensures { result ≡ publisherRefusal stop }
+    ensures { result ≡ publisher_refusal stop }
 {
     match stop {
         PublisherStop::ImageLength => Refusal::ImageLength,
@@ -112,7 +112,7 @@ pub enum Choice {
 
 // T, by the placement.
 fn target(image: &[u8], last: Page, placement: Placement, l: Page) -> Found
-    ensures { result ≡ targetBy placement (pageCount last) image.now l.0 }
+    ensures { result ≡ target_by placement (page_count last) image.now l.0 }
 {
     match placement {
         Placement::LowestFree => chip_chain::free::lowest_free(image, last, l),
@@ -120,7 +120,7 @@ fn target(image: &[u8], last: Page, placement: Placement, l: Page) -> Found
 }
 
 fn choose_free(image: &[u8], last: Page, placement: Placement, l: Page) -> Choice
-    ensures { result ≡ choiceFree (pageCount last) placement image.now l }
+    ensures { result ≡ choice_free (page_count last) placement image.now l }
 {
     match target(image, last, placement, l) {
         Found::At(t) => Choice::Accepted(l, t),
@@ -129,7 +129,7 @@ fn choose_free(image: &[u8], last: Page, placement: Placement, l: Page) -> Choic
 }
 
 fn choose_final(image: &[u8], last: Page, placement: Placement, l: Page) -> Choice
-    ensures { result ≡ choiceFinal (pageCount last) placement image.now l }
+    ensures { result ≡ choice_final (page_count last) placement image.now l }
 {
     if !image::page_bit(image, last, Field::DataProtection, l) {
         return Choice::Refused(PublisherStop::DataProtected(l));
@@ -141,7 +141,7 @@ fn choose_final(image: &[u8], last: Page, placement: Placement, l: Page) -> Choi
 }
 
 fn choose_walked(image: &[u8], last: Page, placement: Placement, v: Verdict) -> Choice
-    ensures { result ≡ choiceWalked (pageCount last) placement image.now v }
+    ensures { result ≡ choice_walked (page_count last) placement image.now v }
 {
     match v {
         Verdict::Final(l, _) => choose_final(image, last, placement, l),
@@ -151,7 +151,7 @@ fn choose_walked(image: &[u8], last: Page, placement: Placement, v: Verdict) -> 
 }
 
 fn choose(image: &[u8], last: Page, placement: Placement, new: &[u8], page: Page) -> Choice
-    ensures { result ≡ choice_of (pageCount last) placement image.now new.now page.0 }
+    ensures { result ≡ choice_of (page_count last) placement image.now new.now page.0 }
 {
     if !layout::is_image(image, last) {
         return Choice::Refused(PublisherStop::ImageLength);
@@ -172,7 +172,7 @@ fn choose(image: &[u8], last: Page, placement: Placement, new: &[u8], page: Page
 
 // The byte with the bitmap bit of a page.
 fn bitmap_byte(image: &[u8], last: Page, t: Page) -> u8
-    ensures { result ≡ bitmapByte (pageCount last) image.now t.0 }
+    ensures { result ≡ bitmap_byte (page_count last) image.now t.0 }
 {
     image::byte_at(
         image,
@@ -189,7 +189,7 @@ fn kept(new: &[u8]) -> [u8; 32]
 }
 
 fn make_ready(image: &[u8], last: Page, kind: UpdateKind, new: &[u8], l: Page, t: Page) -> Publisher
-    ensures { result ≡ ready (pageCount last) kind image.now new.now l t }
+    ensures { result ≡ ready (page_count last) kind image.now new.now l t }
 {
     let used = bitmap_byte(image, last, t);
     let bytes = kept(new);
@@ -204,7 +204,7 @@ fn make_ready(image: &[u8], last: Page, kind: UpdateKind, new: &[u8], l: Page, t
 }
 
 fn make_stopped(kind: UpdateKind, stop: PublisherStop) -> Publisher
-    ensures { result ≡ stoppedBy kind stop }
+    ensures { result ≡ stopped_by kind stop }
 {
     Publisher {
         kind,
@@ -219,8 +219,8 @@ fn make_stopped(kind: UpdateKind, stop: PublisherStop) -> Publisher
 // The start reads the image and the new bytes, writes neither, and gives a state and no event.
 // Refused, in every kind: 1, 10, 3, 4, 5, 20, 9, 8; the state then repeats that.
 pub fn start(kind: UpdateKind, image: &[u8], new: &[u8], page: Page) -> Started
-    ensures answer { startOutcome result.answer ≡ publisherAnswer 64 kind image.now new.now page.0 }
-    ensures state { result.state ≡ publisherState 64 kind image.now new.now page.0 }
+    ensures answer { start_outcome result.answer ≡ publisher_answer 64 kind image.now new.now page.0 }
+    ensures state { result.state ≡ publisher_state 64 kind image.now new.now page.0 }
 {
     let placement = kind.placement;
     match choose(image, Page(layout::DS2505), placement, new, page) {
@@ -245,7 +245,7 @@ pub enum Judged {
 }
 
 fn judge_last(good: bool, stop: PublisherStop) -> Judged
-    ensures { result ≡ judgedLast good stop }
+    ensures { result ≡ judged_last good stop }
 {
     if good {
         Judged::On(true)
@@ -255,7 +255,7 @@ fn judge_last(good: bool, stop: PublisherStop) -> Judged
 }
 
 fn judge_presence(reply: bool) -> Judged
-    ensures { result ≡ judgedPresence reply }
+    ensures { result ≡ judged_presence reply }
 {
     if reply {
         Judged::Stop(PublisherStop::NoPresence)
@@ -265,7 +265,7 @@ fn judge_presence(reply: bool) -> Judged
 }
 
 fn judge(wanted: Wanted, good: bool, reply: bool) -> Judged
-    ensures { result ≡ judgedOf wanted good reply }
+    ensures { result ≡ judged_of wanted good reply }
 {
     match wanted {
         Wanted::Anything => Judged::On(true),
@@ -290,7 +290,7 @@ fn judge(wanted: Wanted, good: bool, reply: bool) -> Judged
 
 // Event number k of the state's plan, counted from 0.
 fn step_of(s: Publisher, k: u16) -> Step
-    ensures { result ≡ step_of (planIn s) k }
+    ensures { result ≡ step_of (plan_in s) k }
 {
     let kind = s.kind;
     let l = s.superseded;
@@ -301,7 +301,7 @@ fn step_of(s: Publisher, k: u16) -> Step
 
 // What the reply that comes after k events has to be.
 fn wanted_of(s: Publisher, k: u16) -> Wanted
-    ensures { result ≡ wantedOf (planIn s) k }
+    ensures { result ≡ wanted_of (plan_in s) k }
 {
     if k == 0 {
         Wanted::Anything
@@ -312,7 +312,7 @@ fn wanted_of(s: Publisher, k: u16) -> Wanted
 }
 
 fn at_stage(s: Publisher, stage: Stage) -> Publisher
-    ensures { result ≡ atStage s stage }
+    ensures { result ≡ at_stage s stage }
 {
     let kind = s.kind;
     let superseded = s.superseded;
@@ -337,7 +337,7 @@ fn published(s: Publisher) -> Answer
 }
 
 fn go_on(s: Publisher, k: u16, good: bool) -> Stepped
-    ensures { result ≡ goneOn (totalIn s) (planIn s) s k good }
+    ensures { result ≡ gone_on (total_in s) (plan_in s) s k good }
 {
     let kind = s.kind;
     if k < kind::total(kind) {
@@ -356,7 +356,7 @@ fn go_on(s: Publisher, k: u16, good: bool) -> Stepped
 }
 
 fn after_judging(s: Publisher, k: u16, judged: Judged) -> Stepped
-    ensures { result ≡ judgedTurn (totalIn s) (planIn s) s k judged }
+    ensures { result ≡ judged_turn (total_in s) (plan_in s) s k judged }
 {
     match judged {
         Judged::On(good) => go_on(s, k, good),
@@ -368,7 +368,7 @@ fn after_judging(s: Publisher, k: u16, judged: Judged) -> Stepped
 }
 
 fn turn(s: Publisher, stage: Stage, reply: bool) -> Stepped
-    ensures { result ≡ turn_of (totalIn s) (planIn s) s stage reply }
+    ensures { result ≡ turn_of (total_in s) (plan_in s) s stage reply }
 {
     match stage {
         Stage::Running(k, good) => after_judging(s, k, judge(wanted_of(s, k), good, reply)),
@@ -387,7 +387,7 @@ fn turn(s: Publisher, stage: Stage, reply: bool) -> Stepped
 
 // A mode in which CRCs are read.
 fn reads_crc(mode: WriteMode) -> bool
-    ensures { result ≡ readsCrc mode }
+    ensures { result ≡ reads_crc mode }
 {
     match mode {
         WriteMode::Ordinary => true,
@@ -397,7 +397,7 @@ fn reads_crc(mode: WriteMode) -> bool
 
 // What a stopped state can hold: 5 with a number that is no page, 9 and 20 with a page, and 6 where CRCs are read.
 fn stop_in_range(mode: WriteMode, last: Page, stop: PublisherStop) -> bool
-    ensures { result ≡ stopInRange mode (pageCount last) stop }
+    ensures { result ≡ stop_in_range mode (page_count last) stop }
 {
     match stop {
         PublisherStop::ImageLength => true,
@@ -415,7 +415,7 @@ fn stop_in_range(mode: WriteMode, last: Page, stop: PublisherStop) -> bool
 }
 
 fn stage_in_range(kind: UpdateKind, last: Page, stage: Stage) -> bool
-    ensures { result ≡ stageInRange kind (pageCount last) stage }
+    ensures { result ≡ stage_in_range kind (page_count last) stage }
 {
     let mode = kind.mode;
     match stage {
@@ -427,7 +427,7 @@ fn stage_in_range(kind: UpdateKind, last: Page, stage: Stage) -> bool
 
 // Whether a state is within its ranges; one that is not draws 2.
 pub fn in_range(last: Page, s: Publisher) -> bool
-    ensures { result ≡ publisherInRange (pageCount last) s }
+    ensures { result ≡ publisher_in_range (page_count last) s }
 {
     let kind = s.kind;
     let stage = s.stage;
@@ -445,8 +445,8 @@ pub fn in_range(last: Page, s: Publisher) -> bool
 // A later call takes the reply to the last event and gives the next one, or L and T, or a refusal; an end repeats when asked again.
 // Refused: 2, with the same state; 13, 6 (in the ordinary mode only), 7, with the stopped state.
 pub fn call(state: Publisher, reply: bool) -> Stepped
-    ensures answer { turnOutcome result.answer ≡ callAnswer 64 state reply }
-    ensures state { result.state ≡ callState 64 state reply }
+    ensures answer { turn_outcome result.answer ≡ call_answer 64 state reply }
+    ensures state { result.state ≡ call_state 64 state reply }
 {
     if !in_range(Page(layout::DS2505), state) {
         return Stepped {

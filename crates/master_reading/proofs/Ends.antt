@@ -6,13 +6,13 @@ use mathlib.Core.List.{List}
 use native.Mathlib.Omega.{arith}
 use lib.ListN.{length}
 use Rattle.base_types.specs.declared.refusal.Refusal.{Refusal}
-use Rattle.base_types.specs.Outcome.{Outcome, accepted, refusing, judge, Done, done, unlessRefused, following}
+use Rattle.base_types.specs.Outcome.{Outcome, accepted, refusing, judge, Done, done, unless_refused, following}
 use Rattle.bus_scripts.specs.Next.{Next}
-use Rattle.bus_scripts.specs.Script.{leftIn}
+use Rattle.bus_scripts.specs.Script.{left_in}
 use Rattle.chip_chain.specs.Walk.{walk_of}
-use Rattle.master_page_laws.specs.Heard.{pageEventsFor}
-use Rattle.master_page_laws.specs.Laws.{verdictOutcome, verdictBytes}
-use Rattle.master_reading.specs.Reading.{readingJudged, readingEnd, readingEvents, readingBuffer}
+use Rattle.master_page_laws.specs.Heard.{page_events_for}
+use Rattle.master_page_laws.specs.Laws.{verdict_outcome, verdict_bytes}
+use Rattle.master_reading.specs.Reading.{reading_judged, reading_end, reading_events, reading_buffer}
 
 -- all three tests have held
 pub all_hold : (image room page : Bool) → accepted done ≡ judge image 1 (judge room 10 (judge page 3 (accepted done)))
@@ -24,23 +24,23 @@ all_hold false room page e = absurd (let z : ◌≡◌ {A = ℕ} 0 1 = cc in ome
 
 module _ (n : ℕ) (img : List ℕ) (p : ℕ) (lent : List ℕ) where
   abbrev Answers : Outcome Next → ℕ → List ℕ → Type 0
-  Answers end events buffer = (end ≡ readingEnd n img p lent) × ((events ≡ readingEvents n img p lent) × (buffer ≡ readingBuffer n img p lent))
+  Answers end events buffer = (end ≡ reading_end n img p lent) × ((events ≡ reading_events n img p lent) × (buffer ≡ reading_buffer n img p lent))
 
   -- what is told by the judgement j
-  by : (j : Outcome Done) → j ≡ readingJudged n img p lent
-      → Answers (following j (verdictOutcome (walk_of n img p))) (unlessRefused j (length (pageEventsFor n img p)) 0)
-      (unlessRefused j (leftIn (verdictBytes (walk_of n img p) img) lent) lent)
+  by : (j : Outcome Done) → j ≡ reading_judged n img p lent
+      → Answers (following j (verdict_outcome (walk_of n img p))) (unless_refused j (length (page_events_for n img p)) 0)
+      (unless_refused j (left_in (verdict_bytes (walk_of n img p) img) lent) lent)
   by j e = (
-    ap (λ (k : Outcome Done). following k (verdictOutcome (walk_of n img p))) e,
+    ap (λ (k : Outcome Done). following k (verdict_outcome (walk_of n img p))) e,
     (
-      ap (λ (k : Outcome Done). unlessRefused k (length (pageEventsFor n img p)) 0) e,
-      ap (λ (k : Outcome Done). unlessRefused k (leftIn (verdictBytes (walk_of n img p) img) lent) lent) e,
+      ap (λ (k : Outcome Done). unless_refused k (length (page_events_for n img p)) 0) e,
+      ap (λ (k : Outcome Done). unless_refused k (left_in (verdict_bytes (walk_of n img p) img) lent) lent) e,
     ),
   )
 
-  pub when-refused : (r : Refusal) → refusing r ≡ readingJudged n img p lent → Answers (refusing r) 0 lent
+  pub when-refused : (r : Refusal) → refusing r ≡ reading_judged n img p lent → Answers (refusing r) 0 lent
   when-refused r e = by (refusing r) e
 
-  pub when-accepted : accepted done ≡ readingJudged n img p lent
-      → Answers (verdictOutcome (walk_of n img p)) (length (pageEventsFor n img p)) (leftIn (verdictBytes (walk_of n img p) img) lent)
+  pub when-accepted : accepted done ≡ reading_judged n img p lent
+      → Answers (verdict_outcome (walk_of n img p)) (length (page_events_for n img p)) (left_in (verdict_bytes (walk_of n img p) img) lent)
   when-accepted e = by (accepted done) e

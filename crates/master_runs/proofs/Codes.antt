@@ -4,11 +4,11 @@ use mathlib.Core.Path.{◌≡◌, refl}
 use mathlib.Core.List.{List, []}
 use Rattle.master_number.specs.declared.Answer.{Answer}
 use Rattle.master_number.specs.declared.Answer.TheVariants.{Send, Done, Refused}
-use Rattle.master_number.specs.NumberRead.{answerOutcome}
-use Rattle.master_runs.specs.Calls.{callCode}
+use Rattle.master_number.specs.NumberRead.{answer_outcome}
+use Rattle.master_runs.specs.Calls.{call_code}
 
-pub same_code : (a : Answer) (bytes : List ℕ) → callCode (answerOutcome a []) ≡ callCode (answerOutcome a bytes)
-unfolding callCode
+pub same_code : (a : Answer) (bytes : List ℕ) → call_code (answer_outcome a []) ≡ call_code (answer_outcome a bytes)
+unfolding call_code
 same_code (Send e) bytes = refl
 same_code Done bytes = refl
 same_code (Refused r) bytes = refl

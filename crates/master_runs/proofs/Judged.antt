@@ -5,14 +5,14 @@ use mathlib.Core.Bool.{Bool, true, ◌&&◌}
 use mathlib.Core.List.{List}
 use lib.ListN.{length}
 use borrow.Author.Tests.{eqb-true}
-use Rattle.base_types.specs.Outcome.{accepted, done, inOrder}
-use Rattle.base_types.proofs.Tests.{and_left, in_order}
-use Rattle.master_runs.specs.Calls.{asMany}
+use Rattle.base_types.specs.Outcome.{accepted, done, in_order}
+use Rattle.base_types.proofs.Tests.{and_left, in_order_lem}
+use Rattle.master_runs.specs.Calls.{as_many}
 
-pub room : (ranges : Bool) (codes events : List ℕ) → inOrder true ranges (asMany codes events) ≡ accepted done → length events ≡ length codes
-room ranges codes events e = eqb-true _ _ (in_order true ranges (asMany codes events) e).1.1
+pub room : (ranges : Bool) (codes events : List ℕ) → in_order true ranges (as_many codes events) ≡ accepted done → length events ≡ length codes
+room ranges codes events e = eqb-true _ _ (in_order_lem true ranges (as_many codes events) e).1.1
 
 pub room-beside : (ranges : Bool) (codes events : List ℕ) (other : Bool)
-    → inOrder true ranges (asMany codes events && other) ≡ accepted done → length events ≡ length codes
+    → in_order true ranges (as_many codes events && other) ≡ accepted done → length events ≡ length codes
 room-beside ranges codes events other e =
-    eqb-true _ _ (and_left (asMany codes events) other (in_order true ranges (asMany codes events && other) e).1.1)
+    eqb-true _ _ (and_left (as_many codes events) other (in_order_lem true ranges (as_many codes events && other) e).1.1)

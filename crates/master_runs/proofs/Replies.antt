@@ -7,17 +7,17 @@ use native.Mathlib.Numerals.{add-one}
 use lib.Dec.{ltb}
 use lib.ListN.{length, get_or, drop, drop_of_length-le}
 use lib.Seq.{drop-cons}
-use Rattle.master_runs.specs.Calls.{areReplies}
+use Rattle.master_runs.specs.Calls.{are_replies}
 
 module _ (codes : List ℕ) (i : ℕ) where
-  pub replies-next : i < length codes → ltb (get_or codes i 0) 2 ≡ true → areReplies (drop (i + 1) codes) ≡ areReplies (drop i codes)
-  unfolding areReplies
-  replies-next h e = ap (λ (k : ℕ). areReplies (drop k codes)) (add-one i) ∙ sym (ap areReplies (drop-cons codes i 0 h) ∙ simp e)
+  pub replies-next : i < length codes → ltb (get_or codes i 0) 2 ≡ true → are_replies (drop (i + 1) codes) ≡ are_replies (drop i codes)
+  unfolding are_replies
+  replies-next h e = ap (λ (k : ℕ). are_replies (drop k codes)) (add-one i) ∙ sym (ap are_replies (drop-cons codes i 0 h) ∙ simp e)
 
-  pub replies-not : i < length codes → ltb (get_or codes i 0) 2 ≡ false → false ≡ areReplies (drop i codes)
-  unfolding areReplies
-  replies-not h e = sym (ap areReplies (drop-cons codes i 0 h) ∙ simp e)
+  pub replies-not : i < length codes → ltb (get_or codes i 0) 2 ≡ false → false ≡ are_replies (drop i codes)
+  unfolding are_replies
+  replies-not h e = sym (ap are_replies (drop-cons codes i 0 h) ∙ simp e)
 
-  pub replies-end : length codes ≤ i → true ≡ areReplies (drop i codes)
-  unfolding areReplies
-  replies-end h = sym (ap areReplies (drop_of_length-le codes h))
+  pub replies-end : length codes ≤ i → true ≡ are_replies (drop i codes)
+  unfolding are_replies
+  replies-end h = sym (ap are_replies (drop_of_length-le codes h))

@@ -3,18 +3,18 @@ use Rattle.std.specs.Prelude.{ℕ, List}
 use Rattle.base_types.specs.Outcome.{Outcome, Done}
 use Rattle.bus_scripts.specs.Next.{Next}
 use Rattle.master_number.specs.declared.NumberRead.{NumberRead}
-use Rattle.master_number.specs.NumberRead.{numberInRange, numberAnswer, numberState}
-use Rattle.master_runs.specs.Calls.{asMany, fedJudged, lastTold, lastState, eventBytes}
+use Rattle.master_number.specs.NumberRead.{number_in_range, number_answer, number_state}
+use Rattle.master_runs.specs.Calls.{as_many, fed_judged, last_told, last_state, event_bytes}
 
 -- 2 for the state and for a byte that is no reply, 10 for the events' buffer
-unfoldable pub numberFedJudged : NumberRead → List ℕ → List ℕ → Outcome Done
-numberFedJudged s codes events = fedJudged (numberInRange s) codes (asMany codes events)
+unfoldable pub number_fed_judged : NumberRead → List ℕ → List ℕ → Outcome Done
+number_fed_judged s codes events = fed_judged (number_in_range s) codes (as_many codes events)
 
-unfoldable pub numberFedOutcome : NumberRead → List ℕ → List ℕ → Outcome Next
-numberFedOutcome s codes events = lastTold numberState numberAnswer (numberFedJudged s codes events) s codes
+unfoldable pub number_fed_outcome : NumberRead → List ℕ → List ℕ → Outcome Next
+number_fed_outcome s codes events = last_told number_state number_answer (number_fed_judged s codes events) s codes
 
-unfoldable pub numberFedState : NumberRead → List ℕ → List ℕ → NumberRead
-numberFedState s codes events = lastState numberState numberAnswer (numberFedJudged s codes events) s codes
+unfoldable pub number_fed_state : NumberRead → List ℕ → List ℕ → NumberRead
+number_fed_state s codes events = last_state number_state number_answer (number_fed_judged s codes events) s codes
 
-unfoldable pub numberFedEvents : NumberRead → List ℕ → List ℕ → List ℕ
-numberFedEvents s codes events = eventBytes numberState numberAnswer (numberFedJudged s codes events) s codes events
+unfoldable pub number_fed_events : NumberRead → List ℕ → List ℕ → List ℕ
+number_fed_events s codes events = event_bytes number_state number_answer (number_fed_judged s codes events) s codes events

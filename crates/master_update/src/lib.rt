@@ -3,10 +3,10 @@ ghost use Rattle.std.specs.Prelude.{◌≡◌};
 ghost use Rattle.bus_events.specs.declared.Event.{Event};
 ghost use Rattle.base_types.specs.Outcome.{accepted};
 ghost use Rattle.bus_scripts.specs.Next.{send};
-ghost use Rattle.master_publisher.specs.Call.{turnOutcome};
-ghost use Rattle.chip_entries.specs.Event.{eventOutcome};
+ghost use Rattle.master_publisher.specs.Call.{turn_outcome};
+ghost use Rattle.chip_entries.specs.Event.{event_outcome};
 ghost use Rattle.chip_entries.specs.Run.{line_of};
-ghost use Rattle.master_update.specs.Update.{handedOn, handedImage, called, imageCalled, isRunning, runFor, opened, updateOutcome, updateAnswer, updatedImage, ReadsAs};
+ghost use Rattle.master_update.specs.Update.{handed_on, handed_image, called, image_called, is_running, run_for, opened, update_outcome, update_answer, updated_image, ReadsAs};
 
 use base_types::address::Page;
 use base_types::refusal::Refusal;
@@ -31,7 +31,7 @@ pub enum Updated {
 
 // The line that an event drew; 1 where the event was refused.
 fn line_of(answer: chip_entries::event::Answer) -> bool
-    ensures { result ≡ line_of (eventOutcome answer) }
+    ensures { result ≡ line_of (event_outcome answer) }
 {
     match answer {
         chip_entries::event::Answer::Refused(_) => true,
@@ -41,8 +41,8 @@ fn line_of(answer: chip_entries::event::Answer) -> bool
 
 // An event reaches the chip.
 fn reach(j: Joined, e: Event, image: &mut [u8]) -> Joined
-    ensures joined { result ≡ handedOn 64 j (accepted (send e)) image.old }
-    ensures image { image.new ≡ handedImage 64 j (accepted (send e)) image.old }
+    ensures joined { result ≡ handed_on 64 j (accepted (send e)) image.old }
+    ensures image { image.new ≡ handed_image 64 j (accepted (send e)) image.old }
 {
     let chip = j.chip;
     let publisher = j.publisher;
@@ -58,8 +58,8 @@ fn reach(j: Joined, e: Event, image: &mut [u8]) -> Joined
 
 // What a call told: an event reaches the chip; an end or a refusal does not.
 fn hand_on(j: Joined, answer: master_publisher::Answer, image: &mut [u8]) -> Joined
-    ensures joined { result ≡ handedOn 64 j (turnOutcome answer) image.old }
-    ensures image { image.new ≡ handedImage 64 j (turnOutcome answer) image.old }
+    ensures joined { result ≡ handed_on 64 j (turn_outcome answer) image.old }
+    ensures image { image.new ≡ handed_image 64 j (turn_outcome answer) image.old }
 {
     match answer {
         master_publisher::Answer::Send(e) => reach(j, e, image),
@@ -71,7 +71,7 @@ fn hand_on(j: Joined, answer: master_publisher::Answer, image: &mut [u8]) -> Joi
 // One later call, with the reply that the last event drew.
 fn call_once(j: Joined, image: &mut [u8]) -> Joined
     ensures joined { result ≡ called 64 j image.old }
-    ensures image { image.new ≡ imageCalled 64 j image.old }
+    ensures image { image.new ≡ image_called 64 j image.old }
 {
     let publisher = j.publisher;
     let chip = j.chip;
@@ -92,7 +92,7 @@ fn call_once(j: Joined, image: &mut [u8]) -> Joined
 
 // The publisher has events left, as far as it has been told.
 fn is_running(j: Joined) -> bool
-    ensures { result ≡ isRunning j.publisher.stage }
+    ensures { result ≡ is_running j.publisher.stage }
 {
     let publisher = j.publisher;
     let stage = publisher.stage;
@@ -105,7 +105,7 @@ fn is_running(j: Joined) -> bool
 
 // So many later calls. After its end a publisher tells no further event, so that no more calls are needed.
 fn run(start: Joined, calls: u32, image: &mut [u8])
-    ensures { image.new ≡ runFor 64 calls start image.old }
+    ensures { image.new ≡ run_for 64 calls start image.old }
 {
     let mut j = start;
     let mut left = calls;
@@ -128,8 +128,8 @@ pub fn update(
     page: Page,
     events: u32,
 ) -> Updated
-    ensures answer { updateOutcome result ≡ updateAnswer 64 kind image.old new.now page.0 }
-    ensures image { image.new ≡ updatedImage 64 kind number image.old new.now page.0 events }
+    ensures answer { update_outcome result ≡ update_answer 64 kind image.old new.now page.0 }
+    ensures image { image.new ≡ updated_image 64 kind number image.old new.now page.0 events }
     ensures reads { ReadsAs 64 kind image.old new.now page.0 events image.new }
 {
     let started = master_publisher::start(kind, image, new, page);

@@ -3,7 +3,7 @@ use Prim.Native.Nat.{ℕ}
 use mathlib.Core.Path.{◌≡◌, refl}
 use mathlib.Core.Bool.{Bool, true, false, ◌&&◌}
 use native.Mathlib.Omega.{arith}
-use Rattle.base_types.specs.Outcome.{Outcome, refused, accepted, judge, Done, done, following, inOrder}
+use Rattle.base_types.specs.Outcome.{Outcome, refused, accepted, judge, Done, done, following, in_order}
 
 -- what comes first is accepted where all is
 pub first-accepted : (j k : Outcome Done) → following j k ≡ accepted done → j ≡ accepted done
@@ -12,7 +12,7 @@ first-accepted (refused n vs) k e = absurd (let y : ◌≡◌ {A = ℕ} 0 1 = cc
 
 -- the answer's buffer is judged with the other buffers
 pub answer-judged : (image ranges lengths answer : Bool) (rest : Outcome Done)
-    → following (inOrder image ranges lengths) (judge answer 10 rest) ≡ following (inOrder image ranges (answer && lengths)) rest
+    → following (in_order image ranges lengths) (judge answer 10 rest) ≡ following (in_order image ranges (answer && lengths)) rest
 answer-judged false ranges lengths answer rest = refl
 answer-judged true false lengths answer rest = refl
 answer-judged true true true true rest = refl

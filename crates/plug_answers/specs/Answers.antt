@@ -11,8 +11,8 @@ code_in (refused number values) = number
 code_in (accepted a) = 0
 
 -- a buffer for an answer has sixteen bytes
-unfoldable pub isAnswer : List ℕ → Bool
-isAnswer answer = eqb (length answer) 16
+unfoldable pub is_answer : List ℕ → Bool
+is_answer answer = eqb (length answer) 16
 
 -- The answer's first byte is the event, or FFh where none is told, and the values follow. A refusal that gives back no value, and what
 -- is past the values, leaves the buffer as it was.
@@ -21,15 +21,15 @@ answered (accepted values) answer = copied (0xFF ∷ values) answer
 answered (refused number []) answer = answer
 answered (refused number (v ∷ values)) answer = copied (0xFF ∷ v ∷ values) answer
 
-unfoldable pub nextAnswered : Outcome Next → List ℕ → List ℕ
-nextAnswered (accepted (send e)) answer = copied (code_of e ∷ []) answer
-nextAnswered (accepted (tells values)) answer = answered (accepted values) answer
-nextAnswered (refused number values) answer = answered (refused number values) answer
+unfoldable pub next_answered : Outcome Next → List ℕ → List ℕ
+next_answered (accepted (send e)) answer = copied (code_of e ∷ []) answer
+next_answered (accepted (tells values)) answer = answered (accepted values) answer
+next_answered (refused number values) answer = answered (refused number values) answer
 
 -- the first eight bytes of a list, which is all of a registration number
-unfoldable pub eightOf : List ℕ → List ℕ
-eightOf b = get_or b 0 0 ∷ get_or b 1 0 ∷ get_or b 2 0 ∷ get_or b 3 0 ∷ get_or b 4 0 ∷ get_or b 5 0 ∷ get_or b 6 0 ∷ get_or b 7 0 ∷ []
+unfoldable pub eight_of : List ℕ → List ℕ
+eight_of b = get_or b 0 0 ∷ get_or b 1 0 ∷ get_or b 2 0 ∷ get_or b 3 0 ∷ get_or b 4 0 ∷ get_or b 5 0 ∷ get_or b 6 0 ∷ get_or b 7 0 ∷ []
 
 -- a number has eight bytes
-unfoldable pub isNumberBuffer : List ℕ → Bool
-isNumberBuffer b = eqb (length b) 8
+unfoldable pub is_number_buffer : List ℕ → Bool
+is_number_buffer b = eqb (length b) 8

@@ -1,10 +1,10 @@
 // What a caller in C is told.
 ghost use Rattle.std.specs.Prelude.{◌≡◌, [], ◌∷◌};
-ghost use Rattle.base_types.specs.Outcome.{accepted, refusing, judgedOutcome};
+ghost use Rattle.base_types.specs.Outcome.{accepted, refusing, judged_outcome};
 ghost use Rattle.base_types.specs.Refusal.{number_of};
 ghost use Rattle.bus_events.specs.Codes.{code_of};
 ghost use Rattle.chip_memory.specs.Page.{copied};
-ghost use Rattle.plug_answers.specs.Answers.{code_in, isAnswer, isNumberBuffer, eightOf, answered};
+ghost use Rattle.plug_answers.specs.Answers.{code_in, is_answer, is_number_buffer, eight_of, answered};
 
 use base_types::refusal;
 use base_types::refusal::{Given, Judged, Refusal};
@@ -13,21 +13,21 @@ use chip_memory::{image, page};
 
 // A buffer for an answer has sixteen bytes.
 pub fn is_answer(answer: &[u8]) -> bool
-    ensures { result ≡ isAnswer answer.now }
+    ensures { result ≡ is_answer answer.now }
 {
     answer.len() == 16
 }
 
 // A registration number has eight.
 pub fn is_number(number: &[u8]) -> bool
-    ensures { result ≡ isNumberBuffer number.now }
+    ensures { result ≡ is_number_buffer number.now }
 {
     number.len() == 8
 }
 
 // The first eight bytes of a slice.
 pub fn eight_of(b: &[u8]) -> [u8; 8]
-    ensures { result ≡ eightOf b.now }
+    ensures { result ≡ eight_of b.now }
 {
     [
         image::byte_at(b, 0),
@@ -43,7 +43,7 @@ pub fn eight_of(b: &[u8]) -> [u8; 8]
 
 // The code of an answer that tells nothing more.
 pub fn code(judged: Judged) -> u32
-    ensures { result ≡ code_in (judgedOutcome judged) }
+    ensures { result ≡ code_in (judged_outcome judged) }
 {
     match judged {
         Judged::Refused(r) => number(r),

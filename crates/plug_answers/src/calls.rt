@@ -1,7 +1,7 @@
 // What callers in C can get wrong before a master is asked.
 ghost use Rattle.std.specs.Prelude.{◌≡◌};
-ghost use Rattle.base_types.specs.Outcome.{judgedOutcome, following};
-ghost use Rattle.plug_answers.specs.Calls.{pageNumber, replyJudged, callJudged, answerJudged};
+ghost use Rattle.base_types.specs.Outcome.{judged_outcome, following};
+ghost use Rattle.plug_answers.specs.Calls.{page_number, reply_judged, call_judged, answer_judged};
 
 use crate::answer;
 use base_types::address::Page;
@@ -10,7 +10,7 @@ use base_types::refusal::Judged;
 
 // The page of a number, whichever it is. One that no byte holds counts as 255, which is no page of the chip either.
 pub fn page(number: u32) -> Page
-    ensures { result.0 ≡ pageNumber number }
+    ensures { result.0 ≡ page_number number }
 {
     if number < 256 {
         Page(number as u8)
@@ -21,7 +21,7 @@ pub fn page(number: u32) -> Page
 
 // A reply to a state that is within its ranges or not. Refused: 2, 10.
 fn judge_reply(in_range: bool, reply: u32, answer: &[u8]) -> Judged
-    ensures { judgedOutcome result ≡ replyJudged in_range reply answer.now }
+    ensures { judged_outcome result ≡ reply_judged in_range reply answer.now }
 {
     if !in_range {
         return refusal::in_order(true, false, true);
@@ -31,7 +31,7 @@ fn judge_reply(in_range: bool, reply: u32, answer: &[u8]) -> Judged
 
 // A call on bytes that hold a state or none. Refused: 2, 10.
 pub fn judge_call(unpacked: Judged, in_range: bool, reply: u32, answer: &[u8]) -> Judged
-    ensures { judgedOutcome result ≡ callJudged (judgedOutcome unpacked) in_range reply answer.now }
+    ensures { judged_outcome result ≡ call_judged (judged_outcome unpacked) in_range reply answer.now }
 {
     match unpacked {
         Judged::Refused(r) => Judged::Refused(r),
@@ -41,7 +41,7 @@ pub fn judge_call(unpacked: Judged, in_range: bool, reply: u32, answer: &[u8]) -
 
 // What is judged first, then the answer's buffer, then the rest. Refused: 10 in its place.
 pub fn judge_answer(first: Judged, answer: &[u8], rest: Judged) -> Judged
-    ensures { judgedOutcome result ≡ following (judgedOutcome first) (answerJudged answer.now (judgedOutcome rest)) }
+    ensures { judged_outcome result ≡ following (judged_outcome first) (answer_judged answer.now (judged_outcome rest)) }
 {
     match first {
         Judged::Refused(r) => Judged::Refused(r),

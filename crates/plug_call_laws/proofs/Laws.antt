@@ -8,40 +8,40 @@ use lib.ListN.{length, length-map}
 use borrow.Author.Tests.{eq-eqb, lt-ltb, le-ltb}
 use Rattle.base_types.specs.Bits.{one}
 use Rattle.base_types.specs.Outcome.{accepted, done}
-use Rattle.chip_memory.specs.Layout.{isImage, isPage}
-use Rattle.master_number.specs.NumberRead.{numberBegun}
-use Rattle.master_page.specs.PageRead.{startAnswer}
-use Rattle.master_page.specs.Held.{pageStarted}
+use Rattle.chip_memory.specs.Layout.{is_image, is_page}
+use Rattle.master_number.specs.NumberRead.{number_begun}
+use Rattle.master_page.specs.PageRead.{start_answer}
+use Rattle.master_page.specs.Held.{page_started}
 use Rattle.master_publisher.specs.declared.Choice.{Choice}
 use Rattle.master_publisher.specs.declared.Choice.TheVariants.{Refused}
 use Rattle.master_publisher.specs.Start as publish
 use Rattle.master_plan.specs.declared.kind.UpdateKind.{UpdateKind}
 use Rattle.master_publisher.specs.declared.PublisherStop.TheVariants.{ImageLength}
-use Rattle.master_runs.specs.Calls.{areReplies, repliesAt, callCode, lastFrom, toCome}
+use Rattle.master_runs.specs.Calls.{are_replies, replies_at, call_code, last_from, to_come}
 use Rattle.master_number_laws.specs.Laws as number-laws
 use Rattle.master_page_laws.specs.Laws as page-laws
 use Rattle.master_call_laws.specs.Calls as call-laws
-use Rattle.plug_answers.specs.Answers.{isAnswer}
-use Rattle.plug_reader_calls.specs.Number.{numberRunJudged, numberRunOutcome, numberRunEvents}
-use Rattle.plug_reader_calls.specs.Page.{pageRunJudged, pageRunOutcome, pageRunEvents, pageRunBuffer}
-use Rattle.plug_publisher_calls.specs.Publisher.{publisherRunJudged, publisherRunOutcome, publisherRunEvents}
+use Rattle.plug_answers.specs.Answers.{is_answer}
+use Rattle.plug_reader_calls.specs.Number.{number_run_judged, number_run_outcome, number_run_events}
+use Rattle.plug_reader_calls.specs.Page.{page_run_judged, page_run_outcome, page_run_events, page_run_buffer}
+use Rattle.plug_publisher_calls.specs.Publisher.{publisher_run_judged, publisher_run_outcome, publisher_run_events}
 use Rattle.plug_call_laws.specs.Laws.{given, Buffers, Shows, Refuses, RunLaws}
 
 -- ---- the premises as the judgements have them
 
-are : (replies : List Bool) → areReplies (given replies) ≡ true
-unfolding areReplies
+are : (replies : List Bool) → are_replies (given replies) ≡ true
+unfolding are_replies
 are [] = refl
 are (true ∷ replies) = are replies
 are (false ∷ replies) = are replies
 
-mean : (replies : List Bool) → repliesAt (given replies) ≡ replies
+mean : (replies : List Bool) → replies_at (given replies) ≡ replies
 mean [] = refl
 mean (true ∷ replies) = ap (λ (l : List Bool). true ∷ l) (mean replies)
 mean (false ∷ replies) = ap (λ (l : List Bool). false ∷ l) (mean replies)
 
-are-not : (first later : List ℕ) (b : ℕ) → 2 ≤ b → areReplies (first ++ (b ∷ later)) ≡ false
-unfolding areReplies
+are-not : (first later : List ℕ) (b : ℕ) → 2 ≤ b → are_replies (first ++ (b ∷ later)) ≡ false
+unfolding are_replies
 are-not [] later b h = simp (le-ltb b 2 h)
 are-not (c ∷ first) later b h = ap (λ (r : Bool). ltb c 2 && r) (are-not first later b h) ∙ never (ltb c 2)
   where
@@ -49,63 +49,63 @@ are-not (c ∷ first) later b h = ap (λ (r : Bool). ltb c 2 && r) (are-not firs
     never true = refl
     never false = refl
 
-sized : (n : ℕ) (kind : UpdateKind) (img new : List ℕ) (p : ℕ) → publish.publisherAnswer n kind img new p ≡ accepted [] → isImage n img ≡ true
+sized : (n : ℕ) (kind : UpdateKind) (img new : List ℕ) (p : ℕ) → publish.publisher_answer n kind img new p ≡ accepted [] → is_image n img ≡ true
 unfolding publish.choice_of
-sized n kind img new p e = go (isImage n img) _ e
+sized n kind img new p e = go (is_image n img) _ e
   where
-    go : (b : Bool) (rest : Choice) → publish.choiceOutcome (cond b rest (Refused ImageLength)) ≡ accepted [] → b ≡ true
+    go : (b : Bool) (rest : Choice) → publish.choice_outcome (cond b rest (Refused ImageLength)) ≡ accepted [] → b ≡ true
     go true rest e = refl
     go false rest e = absurd (let y : ◌≡◌ {A = ℕ} 0 1 = cc in omega arith)
 
 module _ (replies : List Bool) (events answer : List ℕ) (l : Buffers replies events answer) where
-  sixteen : isAnswer answer ≡ true
-  unfolding isAnswer
+  sixteen : is_answer answer ≡ true
+  unfolding is_answer
   sixteen = eq-eqb (length answer) 16 l.sixteen
 
   many : eqb (length events) (length (given replies)) ≡ true
   many = eq-eqb (length events) (length (given replies)) (l.many ∙ sym (length-map replies one))
 
-  number-run : Shows (number-laws.numberAnswersTo numberBegun replies) (numberRunOutcome (given replies) events answer) (numberRunEvents (given replies) events answer)
-  unfolding numberRunJudged numberRunOutcome numberRunEvents
+  number-run : Shows (number-laws.number_answers_to number_begun replies) (number_run_outcome (given replies) events answer) (number_run_events (given replies) events answer)
+  unfolding number_run_judged number_run_outcome number_run_events
   number-run =
-      let same = ap (λ (r : List Bool). number-laws.numberAnswersTo numberBegun r) (mean replies) in
+      let same = ap (λ (r : List Bool). number-laws.number_answers_to number_begun r) (mean replies) in
       record {
-        events = simp (are replies, sixteen, many) (ap (map callCode) same);
-        told = simp (are replies, sixteen, many) (ap (lastFrom toCome) same);
+        events = simp (are replies, sixteen, many) (ap (map call_code) same);
+        told = simp (are replies, sixteen, many) (ap (last_from to_come) same);
       }
 
   module _ (n p : ℕ) (buffer : List ℕ) (below : p < n) (right : length buffer ≡ 32) where
-    page-accepted : pageRunJudged n p (given replies) events buffer answer ≡ accepted done
-    unfolding pageRunJudged startAnswer isPage
+    page-accepted : page_run_judged n p (given replies) events buffer answer ≡ accepted done
+    unfolding page_run_judged start_answer is_page
     page-accepted = simp (are replies, sixteen, many, eq-eqb (length buffer) 32 right, lt-ltb p n below)
 
-    page-run : Shows (page-laws.pageAnswersTo n (pageStarted n p buffer) replies)
-        (pageRunOutcome n p (given replies) events buffer answer)
-        (pageRunEvents n p (given replies) events buffer answer)
-    unfolding pageRunOutcome pageRunEvents
+    page-run : Shows (page-laws.page_answers_to n (page_started n p buffer) replies)
+        (page_run_outcome n p (given replies) events buffer answer)
+        (page_run_events n p (given replies) events buffer answer)
+    unfolding page_run_outcome page_run_events
     page-run =
-        let same = ap (λ (r : List Bool). page-laws.pageAnswersTo n (pageStarted n p buffer) r) (mean replies) in
-        record { events = simp page-accepted (ap (map callCode) same); told = simp page-accepted (ap (lastFrom toCome) same) }
+        let same = ap (λ (r : List Bool). page-laws.page_answers_to n (page_started n p buffer) r) (mean replies) in
+        record { events = simp page-accepted (ap (map call_code) same); told = simp page-accepted (ap (last_from to_come) same) }
 
-    page-left : pageRunBuffer n p (given replies) events buffer answer ≡ (page-laws.pageAfter n (pageStarted n p buffer) replies).buffer
-    unfolding pageRunBuffer
+    page-left : page_run_buffer n p (given replies) events buffer answer ≡ (page-laws.page_after n (page_started n p buffer) replies).buffer
+    unfolding page_run_buffer
     page-left =
-        simp page-accepted (ap (λ (r : List Bool). (page-laws.pageAfter n (pageStarted n p buffer) r).buffer) (mean replies))
+        simp page-accepted (ap (λ (r : List Bool). (page-laws.page_after n (page_started n p buffer) r).buffer) (mean replies))
 
-  publisher-run : (n : ℕ) (kind : UpdateKind) (img new : List ℕ) (p : ℕ) → publish.publisherAnswer n kind img new p ≡ accepted []
-      → Shows (call-laws.updateAnswers n (publish.publisherState n kind img new p) replies)
-      (publisherRunOutcome n kind img new p (given replies) events answer)
-      (publisherRunEvents n kind img new p (given replies) events answer)
-  unfolding publisherRunOutcome publisherRunEvents publisherRunJudged
+  publisher-run : (n : ℕ) (kind : UpdateKind) (img new : List ℕ) (p : ℕ) → publish.publisher_answer n kind img new p ≡ accepted []
+      → Shows (call-laws.update_answers n (publish.publisher_state n kind img new p) replies)
+      (publisher_run_outcome n kind img new p (given replies) events answer)
+      (publisher_run_events n kind img new p (given replies) events answer)
+  unfolding publisher_run_outcome publisher_run_events publisher_run_judged
   publisher-run n kind img new p e =
-      let same = ap (λ (r : List Bool). call-laws.updateAnswers n (publish.publisherState n kind img new p) r) (mean replies) in
+      let same = ap (λ (r : List Bool). call-laws.update_answers n (publish.publisher_state n kind img new p) r) (mean replies) in
       record {
-        events = simp (sized n kind img new p e, are replies, sixteen, many, e) (ap (map callCode) same);
-        told = simp (sized n kind img new p e, are replies, sixteen, many, e) (ap (lastFrom toCome) same);
+        events = simp (sized n kind img new p e, are replies, sixteen, many, e) (ap (map call_code) same);
+        told = simp (sized n kind img new p e, are replies, sixteen, many, e) (ap (last_from to_come) same);
       }
 
 pub run-laws : (n : ℕ) → RunLaws n
-unfolding numberRunJudged numberRunOutcome numberRunEvents pageRunJudged pageRunOutcome pageRunEvents pageRunBuffer publisherRunJudged publisherRunOutcome publisherRunEvents
+unfolding number_run_judged number_run_outcome number_run_events page_run_judged page_run_outcome page_run_events page_run_buffer publisher_run_judged publisher_run_outcome publisher_run_events
 run-laws n =
     record {
       number = number-run;

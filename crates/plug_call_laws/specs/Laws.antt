@@ -3,18 +3,18 @@ use Rattle.std.specs.Prelude.{ℕ, ◌<◌, ◌≤◌, ◌≡◌, Bool, true, fa
 use Rattle.base_types.specs.Bits.{one}
 use Rattle.base_types.specs.Outcome.{Outcome, refused, accepted}
 use Rattle.master_plan.specs.declared.kind.UpdateKind.{UpdateKind}
-use Rattle.chip_memory.specs.Layout.{isImage}
+use Rattle.chip_memory.specs.Layout.{is_image}
 use Rattle.bus_scripts.specs.Next.{Next}
-use Rattle.master_number.specs.NumberRead.{numberBegun}
-use Rattle.master_page.specs.Held.{pageStarted}
-use Rattle.master_publisher.specs.Start.{publisherAnswer, publisherState}
-use Rattle.master_runs.specs.Calls.{callCode, lastFrom, toCome}
+use Rattle.master_number.specs.NumberRead.{number_begun}
+use Rattle.master_page.specs.Held.{page_started}
+use Rattle.master_publisher.specs.Start.{publisher_answer, publisher_state}
+use Rattle.master_runs.specs.Calls.{call_code, last_from, to_come}
 use Rattle.master_number_laws.specs.Laws as number-laws
 use Rattle.master_page_laws.specs.Laws as page-laws
 use Rattle.master_call_laws.specs.Calls as call-laws
-use Rattle.plug_reader_calls.specs.Number.{numberRunOutcome, numberRunEvents}
-use Rattle.plug_reader_calls.specs.Page.{pageRunOutcome, pageRunEvents, pageRunBuffer}
-use Rattle.plug_publisher_calls.specs.Publisher.{publisherRunOutcome, publisherRunEvents}
+use Rattle.plug_reader_calls.specs.Number.{number_run_outcome, number_run_events}
+use Rattle.plug_reader_calls.specs.Page.{page_run_outcome, page_run_events, page_run_buffer}
+use Rattle.plug_publisher_calls.specs.Publisher.{publisher_run_outcome, publisher_run_events}
 
 -- replies as a caller in C gives them: a byte each, 0 or 1
 abbrev pub given : List Bool → List ℕ
@@ -27,8 +27,8 @@ pub record Buffers (replies : List Bool) (events answer : List ℕ) : Type 0 whe
 
 -- a byte for each answer stands in the events' buffer, and the last answer is what the run tells by its code and in the answer's buffer
 pub record Shows (answers : List (Outcome Next)) (end : Outcome Next) (written : List ℕ) : Type 0 where
-  pub events : written ≡ map callCode answers
-  pub told : end ≡ lastFrom toCome answers
+  pub events : written ≡ map call_code answers
+  pub told : end ≡ last_from to_come answers
 
 -- a refusal that gives nothing back, and a buffer that stays as it was
 pub record Refuses (number : ℕ) (end : Outcome Next) (before after : List ℕ) : Type 0 where
@@ -37,31 +37,31 @@ pub record Refuses (number : ℕ) (end : Outcome Next) (before after : List ℕ)
 
 pub record RunLaws (n : ℕ) : Type 0 where
   pub number : (replies : List Bool) (events answer : List ℕ) → Buffers replies events answer
-      → Shows (number-laws.numberAnswersTo numberBegun replies) (numberRunOutcome (given replies) events answer) (numberRunEvents (given replies) events answer)
+      → Shows (number-laws.number_answers_to number_begun replies) (number_run_outcome (given replies) events answer) (number_run_events (given replies) events answer)
   pub page : (p : ℕ) (replies : List Bool) (events buffer answer : List ℕ) → Buffers replies events answer → p < n → length buffer ≡ 32
-      → Shows (page-laws.pageAnswersTo n (pageStarted n p buffer) replies)
-      (pageRunOutcome n p (given replies) events buffer answer)
-      (pageRunEvents n p (given replies) events buffer answer)
+      → Shows (page-laws.page_answers_to n (page_started n p buffer) replies)
+      (page_run_outcome n p (given replies) events buffer answer)
+      (page_run_events n p (given replies) events buffer answer)
   -- and the page's buffer is the one after these calls
   pub page-buffer : (p : ℕ) (replies : List Bool) (events buffer answer : List ℕ) → Buffers replies events answer → p < n → length buffer ≡ 32
-      → pageRunBuffer n p (given replies) events buffer answer ≡ (page-laws.pageAfter n (pageStarted n p buffer) replies).buffer
+      → page_run_buffer n p (given replies) events buffer answer ≡ (page-laws.page_after n (page_started n p buffer) replies).buffer
   -- of every kind
   pub publisher : (kind : UpdateKind) (img new : List ℕ) (p : ℕ) (replies : List Bool) (events answer : List ℕ) → Buffers replies events answer
-      → publisherAnswer n kind img new p ≡ accepted []
-      → Shows (call-laws.updateAnswers n (publisherState n kind img new p) replies)
-      (publisherRunOutcome n kind img new p (given replies) events answer)
-      (publisherRunEvents n kind img new p (given replies) events answer)
+      → publisher_answer n kind img new p ≡ accepted []
+      → Shows (call-laws.update_answers n (publisher_state n kind img new p) replies)
+      (publisher_run_outcome n kind img new p (given replies) events answer)
+      (publisher_run_events n kind img new p (given replies) events answer)
   -- a byte that is neither 0 nor 1 draws 2, whatever the buffers' lengths, and nothing is written
   pub number-byte : (first later events answer : List ℕ) (b : ℕ) → 2 ≤ b
-      → Refuses 2 (numberRunOutcome (first ++ (b ∷ later)) events answer) events (numberRunEvents (first ++ (b ∷ later)) events answer)
+      → Refuses 2 (number_run_outcome (first ++ (b ∷ later)) events answer) events (number_run_events (first ++ (b ∷ later)) events answer)
   pub page-byte : (p : ℕ) (first later events buffer answer : List ℕ) (b : ℕ) → 2 ≤ b
-      → Refuses 2 (pageRunOutcome n p (first ++ (b ∷ later)) events buffer answer) events (pageRunEvents n p (first ++ (b ∷ later)) events buffer answer)
+      → Refuses 2 (page_run_outcome n p (first ++ (b ∷ later)) events buffer answer) events (page_run_events n p (first ++ (b ∷ later)) events buffer answer)
   pub page-byte-buffer : (p : ℕ) (first later events buffer answer : List ℕ) (b : ℕ) → 2 ≤ b
-      → pageRunBuffer n p (first ++ (b ∷ later)) events buffer answer ≡ buffer
-  pub publisher-byte : (kind : UpdateKind) (img new : List ℕ) (p : ℕ) (first later events answer : List ℕ) (b : ℕ) → 2 ≤ b → isImage n img ≡ true
-      → Refuses 2 (publisherRunOutcome n kind img new p (first ++ (b ∷ later)) events answer)
+      → page_run_buffer n p (first ++ (b ∷ later)) events buffer answer ≡ buffer
+  pub publisher-byte : (kind : UpdateKind) (img new : List ℕ) (p : ℕ) (first later events answer : List ℕ) (b : ℕ) → 2 ≤ b → is_image n img ≡ true
+      → Refuses 2 (publisher_run_outcome n kind img new p (first ++ (b ∷ later)) events answer)
       events
-      (publisherRunEvents n kind img new p (first ++ (b ∷ later)) events answer)
+      (publisher_run_events n kind img new p (first ++ (b ∷ later)) events answer)
   -- an image of another length draws 1, whatever else is given
-  pub publisher-image : (kind : UpdateKind) (img new : List ℕ) (p : ℕ) (codes events answer : List ℕ) → isImage n img ≡ false
-      → Refuses 1 (publisherRunOutcome n kind img new p codes events answer) events (publisherRunEvents n kind img new p codes events answer)
+  pub publisher-image : (kind : UpdateKind) (img new : List ℕ) (p : ℕ) (codes events answer : List ℕ) → is_image n img ≡ false
+      → Refuses 1 (publisher_run_outcome n kind img new p codes events answer) events (publisher_run_events n kind img new p codes events answer)

@@ -1,15 +1,15 @@
 // Entries on the variation at a latitude and a column, and on the change from one value to another.
 ghost use Rattle.std.specs.Prelude.{◌≡◌};
 ghost use Rattle.plug_answers.specs.Answers.{code_in, answered};
-ghost use Rattle.plug_image_calls.specs.Lookup.{variationValues, sheetVariationValues, changeValues};
+ghost use Rattle.plug_image_calls.specs.Lookup.{variation_values, sheet_variation_values, change_values};
 
 use plug_image_calls::lookup;
 
 // The variation at a latitude and a column. Refused: 1, 10, 4, 5, 16, 17, 18, 4, 5, 19.
 #[unsafe(no_mangle)]
 pub extern "C" fn plug_variation(image: &[u8], latitude: i32, column: u32, answer: &mut [u8]) -> u32
-    ensures code { result ≡ code_in (variationValues 64 image.now latitude column answer.old) }
-    ensures answer { answer.new ≡ answered (variationValues 64 image.now latitude column answer.old) answer.old }
+    ensures code { result ≡ code_in (variation_values 64 image.now latitude column answer.old) }
+    ensures answer { answer.new ≡ answered (variation_values 64 image.now latitude column answer.old) answer.old }
 {
     lookup::variation(image, latitude, column, answer)
 }
@@ -22,8 +22,8 @@ pub extern "C" fn plug_sheet_variation(
     column: u32,
     answer: &mut [u8],
 ) -> u32
-    ensures code { result ≡ code_in (sheetVariationValues 64 sheet.now latitude column answer.old) }
-    ensures answer { answer.new ≡ answered (sheetVariationValues 64 sheet.now latitude column answer.old) answer.old }
+    ensures code { result ≡ code_in (sheet_variation_values 64 sheet.now latitude column answer.old) }
+    ensures answer { answer.new ≡ answered (sheet_variation_values 64 sheet.now latitude column answer.old) answer.old }
 {
     lookup::sheet_variation(sheet, latitude, column, answer)
 }
@@ -31,8 +31,8 @@ pub extern "C" fn plug_sheet_variation(
 // The change from an old value to a new one. Refused: 10, 19.
 #[unsafe(no_mangle)]
 pub extern "C" fn plug_change(old: i32, new: i32, answer: &mut [u8]) -> u32
-    ensures code { result ≡ code_in (changeValues old new answer.old) }
-    ensures answer { answer.new ≡ answered (changeValues old new answer.old) answer.old }
+    ensures code { result ≡ code_in (change_values old new answer.old) }
+    ensures answer { answer.new ≡ answered (change_values old new answer.old) answer.old }
 {
     lookup::change(old, new, answer)
 }

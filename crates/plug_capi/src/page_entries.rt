@@ -1,8 +1,8 @@
 // The page read: fed a list of replies, and step by step with its state in 48 bytes that the caller lends.
 ghost use Rattle.std.specs.Prelude.{◌≡◌};
 ghost use Rattle.plug_answers.specs.Answers.{code_in};
-ghost use Rattle.plug_reader_calls.specs.Page.{pageRunOutcome, pageRunEvents, pageRunBuffer, pageRunTold, pageStartJudged, pageStartState};
-ghost use Rattle.plug_reader_calls.specs.Page.{pageCallOutcome, pageCallState, pageCallBuffer, pageCallTold};
+ghost use Rattle.plug_reader_calls.specs.Page.{page_run_outcome, page_run_events, page_run_buffer, page_run_told, page_start_judged, page_start_state};
+ghost use Rattle.plug_reader_calls.specs.Page.{page_call_outcome, page_call_state, page_call_buffer, page_call_told};
 
 use plug_reader_calls::page;
 
@@ -16,10 +16,10 @@ pub extern "C" fn plug_page_run(
     buffer: &mut [u8],
     answer: &mut [u8],
 ) -> u32
-    ensures code { result ≡ code_in (pageRunOutcome 64 page replies.now events.old buffer.old answer.old) }
-    ensures events { events.new ≡ pageRunEvents 64 page replies.now events.old buffer.old answer.old }
-    ensures buffer { buffer.new ≡ pageRunBuffer 64 page replies.now events.old buffer.old answer.old }
-    ensures answer { answer.new ≡ pageRunTold 64 page replies.now events.old buffer.old answer.old }
+    ensures code { result ≡ code_in (page_run_outcome 64 page replies.now events.old buffer.old answer.old) }
+    ensures events { events.new ≡ page_run_events 64 page replies.now events.old buffer.old answer.old }
+    ensures buffer { buffer.new ≡ page_run_buffer 64 page replies.now events.old buffer.old answer.old }
+    ensures answer { answer.new ≡ page_run_told 64 page replies.now events.old buffer.old answer.old }
 {
     page::run(page, replies, events, buffer, answer)
 }
@@ -27,8 +27,8 @@ pub extern "C" fn plug_page_run(
 // The state before the first call. Refused: 10, 3.
 #[unsafe(no_mangle)]
 pub extern "C" fn plug_page_start(page: u32, state: &mut [u8]) -> u32
-    ensures code { result ≡ code_in (pageStartJudged 64 page state.old) }
-    ensures state { state.new ≡ pageStartState 64 page state.old }
+    ensures code { result ≡ code_in (page_start_judged 64 page state.old) }
+    ensures state { state.new ≡ page_start_state 64 page state.old }
 {
     page::start(page, state)
 }
@@ -42,10 +42,10 @@ pub extern "C" fn plug_page_call(
     buffer: &mut [u8],
     answer: &mut [u8],
 ) -> u32
-    ensures code { result ≡ code_in (pageCallOutcome 64 state.old reply buffer.old answer.old) }
-    ensures state { state.new ≡ pageCallState 64 state.old reply buffer.old answer.old }
-    ensures buffer { buffer.new ≡ pageCallBuffer 64 state.old reply buffer.old answer.old }
-    ensures answer { answer.new ≡ pageCallTold 64 state.old reply buffer.old answer.old }
+    ensures code { result ≡ code_in (page_call_outcome 64 state.old reply buffer.old answer.old) }
+    ensures state { state.new ≡ page_call_state 64 state.old reply buffer.old answer.old }
+    ensures buffer { buffer.new ≡ page_call_buffer 64 state.old reply buffer.old answer.old }
+    ensures answer { answer.new ≡ page_call_told 64 state.old reply buffer.old answer.old }
 {
     page::call(state, reply, buffer, answer)
 }

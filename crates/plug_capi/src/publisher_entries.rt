@@ -2,8 +2,8 @@
 ghost use Rattle.std.specs.Prelude.{◌≡◌};
 ghost use Rattle.master_plan.specs.Kind.{ordinary, quick};
 ghost use Rattle.plug_answers.specs.Answers.{code_in};
-ghost use Rattle.plug_publisher_calls.specs.Publisher.{publisherRunOutcome, publisherRunEvents, publisherRunTold, publisherStarted, publisherStartState};
-ghost use Rattle.plug_publisher_calls.specs.Publisher.{publisherStartTold, publisherCallOutcome, publisherCallState, publisherCallTold};
+ghost use Rattle.plug_publisher_calls.specs.Publisher.{publisher_run_outcome, publisher_run_events, publisher_run_told, publisher_started, publisher_start_state};
+ghost use Rattle.plug_publisher_calls.specs.Publisher.{publisher_start_told, publisher_call_outcome, publisher_call_state, publisher_call_told};
 
 use master_plan::kind;
 use plug_publisher_calls::publisher;
@@ -19,9 +19,9 @@ pub extern "C" fn plug_publisher_run(
     events: &mut [u8],
     answer: &mut [u8],
 ) -> u32
-    ensures code { result ≡ code_in (publisherRunOutcome 64 ordinary image.now new.now page replies.now events.old answer.old) }
-    ensures events { events.new ≡ publisherRunEvents 64 ordinary image.now new.now page replies.now events.old answer.old }
-    ensures answer { answer.new ≡ publisherRunTold 64 ordinary image.now new.now page replies.now events.old answer.old }
+    ensures code { result ≡ code_in (publisher_run_outcome 64 ordinary image.now new.now page replies.now events.old answer.old) }
+    ensures events { events.new ≡ publisher_run_events 64 ordinary image.now new.now page replies.now events.old answer.old }
+    ensures answer { answer.new ≡ publisher_run_told 64 ordinary image.now new.now page replies.now events.old answer.old }
 {
     publisher::run_in(kind::ordinary(), image, new, page, replies, events, answer)
 }
@@ -36,9 +36,9 @@ pub extern "C" fn plug_publisher_run_quick(
     events: &mut [u8],
     answer: &mut [u8],
 ) -> u32
-    ensures code { result ≡ code_in (publisherRunOutcome 64 quick image.now new.now page replies.now events.old answer.old) }
-    ensures events { events.new ≡ publisherRunEvents 64 quick image.now new.now page replies.now events.old answer.old }
-    ensures answer { answer.new ≡ publisherRunTold 64 quick image.now new.now page replies.now events.old answer.old }
+    ensures code { result ≡ code_in (publisher_run_outcome 64 quick image.now new.now page replies.now events.old answer.old) }
+    ensures events { events.new ≡ publisher_run_events 64 quick image.now new.now page replies.now events.old answer.old }
+    ensures answer { answer.new ≡ publisher_run_told 64 quick image.now new.now page replies.now events.old answer.old }
 {
     publisher::run_in(kind::quick(), image, new, page, replies, events, answer)
 }
@@ -52,9 +52,9 @@ pub extern "C" fn plug_publisher_start(
     state: &mut [u8],
     answer: &mut [u8],
 ) -> u32
-    ensures code { result ≡ code_in (publisherStarted 64 ordinary image.now new.now page state.old answer.old) }
-    ensures state { state.new ≡ publisherStartState 64 ordinary image.now new.now page state.old answer.old }
-    ensures answer { answer.new ≡ publisherStartTold 64 ordinary image.now new.now page state.old answer.old }
+    ensures code { result ≡ code_in (publisher_started 64 ordinary image.now new.now page state.old answer.old) }
+    ensures state { state.new ≡ publisher_start_state 64 ordinary image.now new.now page state.old answer.old }
+    ensures answer { answer.new ≡ publisher_start_told 64 ordinary image.now new.now page state.old answer.old }
 {
     publisher::start_in(kind::ordinary(), image, new, page, state, answer)
 }
@@ -68,9 +68,9 @@ pub extern "C" fn plug_publisher_start_quick(
     state: &mut [u8],
     answer: &mut [u8],
 ) -> u32
-    ensures code { result ≡ code_in (publisherStarted 64 quick image.now new.now page state.old answer.old) }
-    ensures state { state.new ≡ publisherStartState 64 quick image.now new.now page state.old answer.old }
-    ensures answer { answer.new ≡ publisherStartTold 64 quick image.now new.now page state.old answer.old }
+    ensures code { result ≡ code_in (publisher_started 64 quick image.now new.now page state.old answer.old) }
+    ensures state { state.new ≡ publisher_start_state 64 quick image.now new.now page state.old answer.old }
+    ensures answer { answer.new ≡ publisher_start_told 64 quick image.now new.now page state.old answer.old }
 {
     publisher::start_in(kind::quick(), image, new, page, state, answer)
 }
@@ -79,9 +79,9 @@ pub extern "C" fn plug_publisher_start_quick(
 // ordinary mode), 7.
 #[unsafe(no_mangle)]
 pub extern "C" fn plug_publisher_call(state: &mut [u8], reply: u32, answer: &mut [u8]) -> u32
-    ensures code { result ≡ code_in (publisherCallOutcome 64 state.old reply answer.old) }
-    ensures state { state.new ≡ publisherCallState 64 state.old reply answer.old }
-    ensures answer { answer.new ≡ publisherCallTold 64 state.old reply answer.old }
+    ensures code { result ≡ code_in (publisher_call_outcome 64 state.old reply answer.old) }
+    ensures state { state.new ≡ publisher_call_state 64 state.old reply answer.old }
+    ensures answer { answer.new ≡ publisher_call_told 64 state.old reply answer.old }
 {
     publisher::call(state, reply, answer)
 }

@@ -2,7 +2,7 @@
 ghost use Rattle.std.specs.Prelude.{◌≡◌};
 ghost use Rattle.master_plan.specs.Kind.{ordinary, quick};
 ghost use Rattle.plug_answers.specs.Answers.{code_in, answered};
-ghost use Rattle.plug_publisher_calls.specs.Update.{updateValues, updateImage};
+ghost use Rattle.plug_publisher_calls.specs.Update.{update_values, update_image};
 
 use master_plan::kind;
 use plug_publisher_calls::update;
@@ -17,9 +17,9 @@ pub extern "C" fn plug_update(
     events: u32,
     answer: &mut [u8],
 ) -> u32
-    ensures code { result ≡ code_in (updateValues 64 ordinary image.old number.now new.now page answer.old) }
-    ensures answer { answer.new ≡ answered (updateValues 64 ordinary image.old number.now new.now page answer.old) answer.old }
-    ensures image { image.new ≡ updateImage 64 ordinary image.old number.now new.now page events answer.old }
+    ensures code { result ≡ code_in (update_values 64 ordinary image.old number.now new.now page answer.old) }
+    ensures answer { answer.new ≡ answered (update_values 64 ordinary image.old number.now new.now page answer.old) answer.old }
+    ensures image { image.new ≡ update_image 64 ordinary image.old number.now new.now page events answer.old }
 {
     update::update_in(kind::ordinary(), image, number, new, page, events, answer)
 }
@@ -34,9 +34,9 @@ pub extern "C" fn plug_update_quick(
     events: u32,
     answer: &mut [u8],
 ) -> u32
-    ensures code { result ≡ code_in (updateValues 64 quick image.old number.now new.now page answer.old) }
-    ensures answer { answer.new ≡ answered (updateValues 64 quick image.old number.now new.now page answer.old) answer.old }
-    ensures image { image.new ≡ updateImage 64 quick image.old number.now new.now page events answer.old }
+    ensures code { result ≡ code_in (update_values 64 quick image.old number.now new.now page answer.old) }
+    ensures answer { answer.new ≡ answered (update_values 64 quick image.old number.now new.now page answer.old) answer.old }
+    ensures image { image.new ≡ update_image 64 quick image.old number.now new.now page events answer.old }
 {
     update::update_in(kind::quick(), image, number, new, page, events, answer)
 }

@@ -3,13 +3,13 @@ use Prim.Native.Nat.{ℕ}
 use mathlib.Core.Path.{◌≡◌}
 use mathlib.Core.Bool.{true}
 use mathlib.Core.List.{List}
-use Rattle.chip_function.specs.Ranges.{memoryInRange}
-use Rattle.chip_entries.specs.Event.{powerUp, chipInRange}
-use Rattle.chip_entries.specs.Run.{runAnswer}
-use Rattle.plug_answers.specs.Answers.{isNumberBuffer, eightOf}
-use Rattle.plug_chip_calls.specs.Chip.{wholeAnswer}
+use Rattle.chip_function.specs.Ranges.{memory_in_range}
+use Rattle.chip_entries.specs.Event.{power_up, chip_in_range}
+use Rattle.chip_entries.specs.Run.{run_answer}
+use Rattle.plug_answers.specs.Answers.{is_number_buffer, eight_of}
+use Rattle.plug_chip_calls.specs.Chip.{whole_answer}
 
-pub whole-judged : (number codes img replies : List ℕ) → isNumberBuffer number ≡ true
-    → runAnswer 64 (powerUp (eightOf number)) codes img replies ≡ wholeAnswer 64 number codes img replies
-unfolding runAnswer wholeAnswer powerUp chipInRange memoryInRange
+pub whole-judged : (number codes img replies : List ℕ) → is_number_buffer number ≡ true
+    → run_answer 64 (power_up (eight_of number)) codes img replies ≡ whole_answer 64 number codes img replies
+unfolding run_answer whole_answer power_up chip_in_range memory_in_range
 whole-judged number codes img replies e = simp e

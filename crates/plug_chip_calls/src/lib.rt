@@ -1,10 +1,10 @@
 // The work of the chip's entries: a whole run from power-up, and step by step with the state in 24 bytes that the caller lends.
 ghost use Rattle.std.specs.Prelude.{◌≡◌};
-ghost use Rattle.base_types.specs.Outcome.{judgedOutcome, unlessRefused};
-ghost use Rattle.chip_entries.specs.Run.{runAnswer, ranChip, ranReplies};
-ghost use Rattle.plug_chip_packing.specs.Chip.{chipBuffer};
+ghost use Rattle.base_types.specs.Outcome.{judged_outcome, unless_refused};
+ghost use Rattle.chip_entries.specs.Run.{run_answer, ran_chip, ran_replies};
+ghost use Rattle.plug_chip_packing.specs.Chip.{chip_buffer};
 ghost use Rattle.plug_answers.specs.Answers.{code_in};
-ghost use Rattle.plug_chip_calls.specs.Chip.{wholeAnswer, wholeImage, wholeReplies, powerAnswer, powerState, chipLeft, eventsAnswer, eventsState, eventsImage, eventsReplies};
+ghost use Rattle.plug_chip_calls.specs.Chip.{whole_answer, whole_image, whole_replies, power_answer, power_state, chip_left, events_answer, events_state, events_image, events_replies};
 
 use base_types::address::Page;
 use base_types::refusal;
@@ -17,9 +17,9 @@ use plug_chip_packing::chip_state;
 
 // From power-up. A number of another length draws 10, after 1 and 2.
 pub fn run(number: &[u8], events: &[u8], image: &mut [u8], replies: &mut [u8]) -> u32
-    ensures code { result ≡ code_in (wholeAnswer 64 number.now events.now image.old replies.old) }
-    ensures image { image.new ≡ wholeImage 64 number.now events.now image.old replies.old }
-    ensures replies { replies.new ≡ wholeReplies 64 number.now events.now image.old replies.old }
+    ensures code { result ≡ code_in (whole_answer 64 number.now events.now image.old replies.old) }
+    ensures image { image.new ≡ whole_image 64 number.now events.now image.old replies.old }
+    ensures replies { replies.new ≡ whole_replies 64 number.now events.now image.old replies.old }
 {
     if !answer::is_number(number) {
         return answer::code(refusal::in_order(
@@ -40,8 +40,8 @@ pub fn run(number: &[u8], events: &[u8], image: &mut [u8], replies: &mut [u8]) -
 
 // The state at power-up.
 pub fn power_up(number: &[u8], state: &mut [u8]) -> u32
-    ensures code { result ≡ code_in (powerAnswer number.now state.old) }
-    ensures state { state.new ≡ powerState number.now state.old }
+    ensures code { result ≡ code_in (power_answer number.now state.old) }
+    ensures state { state.new ≡ power_state number.now state.old }
 {
     if !answer::is_number(number) {
         return 10;
@@ -51,8 +51,8 @@ pub fn power_up(number: &[u8], state: &mut [u8]) -> u32
 
 // The state after accepted events, and the code.
 fn keep(judged: Judged, after: State, state: &mut [u8]) -> u32
-    ensures code { result ≡ code_in (judgedOutcome judged) }
-    ensures state { state.new ≡ unlessRefused (judgedOutcome judged) (chipBuffer after state.old) state.old }
+    ensures code { result ≡ code_in (judged_outcome judged) }
+    ensures state { state.new ≡ unless_refused (judged_outcome judged) (chip_buffer after state.old) state.old }
 {
     match judged {
         Judged::Refused(r) => answer::number(r),
@@ -71,10 +71,10 @@ fn run_state(
     image: &mut [u8],
     replies: &mut [u8],
 ) -> u32
-    ensures code { result ≡ code_in (runAnswer 64 before events.now image.old replies.old) }
-    ensures state { state.new ≡ chipLeft 64 before events.now image.old replies.old state.old }
-    ensures image { image.new ≡ (ranChip 64 before events.now image.old replies.old).image }
-    ensures replies { replies.new ≡ ranReplies 64 before events.now image.old replies.old }
+    ensures code { result ≡ code_in (run_answer 64 before events.now image.old replies.old) }
+    ensures state { state.new ≡ chip_left 64 before events.now image.old replies.old state.old }
+    ensures image { image.new ≡ (ran_chip 64 before events.now image.old replies.old).image }
+    ensures replies { replies.new ≡ ran_replies 64 before events.now image.old replies.old }
 {
     let ran = event::run(before, events, image, replies);
     let judged = ran.answer;
@@ -84,10 +84,10 @@ fn run_state(
 
 // The same on the bytes of a state. An image of another length draws 1, whatever these bytes are.
 pub fn events(state: &mut [u8], events: &[u8], image: &mut [u8], replies: &mut [u8]) -> u32
-    ensures code { result ≡ code_in (eventsAnswer 64 state.old events.now image.old replies.old) }
-    ensures state { state.new ≡ eventsState 64 state.old events.now image.old replies.old }
-    ensures image { image.new ≡ eventsImage 64 state.old events.now image.old replies.old }
-    ensures replies { replies.new ≡ eventsReplies 64 state.old events.now image.old replies.old }
+    ensures code { result ≡ code_in (events_answer 64 state.old events.now image.old replies.old) }
+    ensures state { state.new ≡ events_state 64 state.old events.now image.old replies.old }
+    ensures image { image.new ≡ events_image 64 state.old events.now image.old replies.old }
+    ensures replies { replies.new ≡ events_replies 64 state.old events.now image.old replies.old }
 {
     if !layout::is_image(image, Page(layout::DS2505)) {
         return 1;

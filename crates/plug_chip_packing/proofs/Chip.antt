@@ -25,16 +25,16 @@ use Rattle.chip_entries.specs.declared.event.Stage.{Stage}
 use Rattle.chip_entries.specs.declared.event.Stage.TheVariants.{Rom, Memory}
 use Rattle.chip_entries.specs.declared.event.State.{State}
 use Rattle.plug_fields.specs.Fields.{word, joined, padded, same, rest_at}
-use Rattle.plug_chip_packing.specs.Chip.{writeTag, commandTag, commandOf, stepTag, romStepOf, targetTag, targetAddress, target_of, incomingBytes}
-use Rattle.plug_chip_packing.specs.Chip.{incomingOf, outgoingBytes, addressedOf, outgoingOf, romBytes, memoryBytes, chipStageBytes, memoryOf, chipStageOf, chipAt, chipNone}
-use Rattle.plug_chip_packing.specs.Chip.{chipBytes, chipStateOf, isChipState, ChipPacking}
+use Rattle.plug_chip_packing.specs.Chip.{write_tag, command_tag, command_of, step_tag, rom_step_of, target_tag, target_address, target_of, incoming_bytes}
+use Rattle.plug_chip_packing.specs.Chip.{incoming_of, outgoing_bytes, addressed_of, outgoing_of, rom_bytes, memory_bytes, chip_stage_bytes, memory_of, chip_stage_of, chip_at, chip_none}
+use Rattle.plug_chip_packing.specs.Chip.{chip_bytes, chip_state_of, is_chip_state, ChipPacking}
 use Rattle.plug_fields.proofs.Laws.{past, mode-back, halves, same_tag, same_not, same-own, low-joined, high-joined, Laws, laws}
-use Rattle.plug_chip_packing.specs.Code.Chip.{chipStageOwn}
+use Rattle.plug_chip_packing.specs.Code.Chip.{chip_stage_own}
 
 -- ---- enums by a number
 
-pub command-good : (x : ℕ) → eqb x (commandTag (commandOf x)) ≡ ltb x 7
-unfolding commandTag commandOf writeTag
+pub command-good : (x : ℕ) → eqb x (command_tag (command_of x)) ≡ ltb x 7
+unfolding command_tag command_of write_tag
 command-good zero = refl
 command-good (suc zero) = refl
 command-good (suc (suc zero)) = refl
@@ -49,8 +49,8 @@ command-good (suc (suc (suc (suc (suc (suc (suc x))))))) =
     (rw (past 4 (suc (suc (suc (suc (suc (suc (suc x))))))) (omega arith), past 5 (suc (suc (suc (suc (suc (suc (suc x))))))) (omega arith))
     (rw (past 6 (suc (suc (suc (suc (suc (suc (suc x))))))) (omega arith), le-ltb _ _ h))))
 
-pub step-good : (x : ℕ) → eqb x (stepTag (romStepOf x)) ≡ ltb x 5
-unfolding stepTag romStepOf
+pub step-good : (x : ℕ) → eqb x (step_tag (rom_step_of x)) ≡ ltb x 5
+unfolding step_tag rom_step_of
 step-good zero = refl
 step-good (suc zero) = refl
 step-good (suc (suc zero)) = refl
@@ -62,18 +62,18 @@ step-good (suc (suc (suc (suc (suc x))))) =
     (rw (past 2 (suc (suc (suc (suc (suc x))))) (omega arith), past 3 (suc (suc (suc (suc (suc x))))) (omega arith))
     (rw (past 4 (suc (suc (suc (suc (suc x))))) (omega arith), le-ltb _ _ h)))
 
-pub target-good : (x a : ℕ) → eqb x (targetTag (target_of x a)) ≡ ltb x 2
-unfolding targetTag target_of
+pub target-good : (x a : ℕ) → eqb x (target_tag (target_of x a)) ≡ ltb x 2
+unfolding target_tag target_of
 target-good zero a = refl
 target-good (suc zero) a = refl
 target-good (suc (suc x)) a =
     let h : 2 ≤ (suc (suc x)) = omega arith in
     rw (past 0 (suc (suc x)) (omega arith), past 1 (suc (suc x)) (omega arith), le-ltb _ _ h)
 
-pub target_at : (x a : ℕ) → targetAddress (target_of x a) ≡ a
-unfolding targetAddress target_of
-target_at zero a = refl
-target_at (suc x) a = rw (past 0 (suc x) (omega arith))
+pub target_at_lem : (x a : ℕ) → target_address (target_of x a) ≡ a
+unfolding target_address target_of
+target_at_lem zero a = refl
+target_at_lem (suc x) a = rw (past 0 (suc x) (omega arith))
 
 -- a tag, an address and zeros are the bytes from place 6 on
 tagged : (b : List ℕ) {tag : ℕ} → get_or b 6 0 ≡ tag → get_or b 7 0 < 256
@@ -81,8 +81,8 @@ tagged : (b : List ℕ) {tag : ℕ} → get_or b 6 0 ≡ tag → get_or b 7 0 < 
 tagged b e h = rw (same_tag b 6 e, low-joined) (rw (same-own b 7, high-joined, same-own b 8))
 
 pub addressed-own : (b : List ℕ) (t : ℕ) → get_or b 6 0 ≡ t → t ≢ 1 → get_or b 7 0 < 256
-    → same 6 (padded 6 (outgoingBytes (addressedOf t (joined (get_or b 7 0) (get_or b 8 0))))) b ≡ (ltb t 8 && same 9 (replicate 3 0) b)
-unfolding outgoingBytes addressedOf
+    → same 6 (padded 6 (outgoing_bytes (addressed_of t (joined (get_or b 7 0) (get_or b 8 0))))) b ≡ (ltb t 8 && same 9 (replicate 3 0) b)
+unfolding outgoing_bytes addressed_of
 addressed-own b zero e d h = tagged b e h
 addressed-own b (suc zero) e d h = absurd (d refl)
 addressed-own b (suc (suc zero)) e d h = tagged b e h
@@ -97,8 +97,8 @@ addressed-own b (suc (suc (suc (suc (suc (suc (suc (suc x)))))))) e d h =
     rw (past 0 t (omega arith), past 2 t (omega arith), past 3 t (omega arith), past 4 t (omega arith), past 5 t (omega arith))
     (rw (past 6 t (omega arith), past 7 t (omega arith), le-ltb _ _ le, same_not b 6 (λ s. d (sym e ∙ s))))
 
-command-back : (c : Command) → commandOf (commandTag c) ≡ c
-unfolding commandTag commandOf writeTag
+command-back : (c : Command) → command_of (command_tag c) ≡ c
+unfolding command_tag command_of write_tag
 command-back ReadMemory = refl
 command-back ReadStatus = refl
 command-back ExtendedRead = refl
@@ -107,30 +107,30 @@ command-back (Write Ordinary StatusSpace) = refl
 command-back (Write Quick DataSpace) = refl
 command-back (Write Quick StatusSpace) = refl
 
-step_back : (s : RomStep) → romStepOf (stepTag s) ≡ s
-unfolding stepTag romStepOf
+step_back : (s : RomStep) → rom_step_of (step_tag s) ≡ s
+unfolding step_tag rom_step_of
 step_back Read = refl
 step_back Match = refl
 step_back SearchBit = refl
 step_back SearchComplement = refl
 step_back SearchTake = refl
 
-target-back : (t : Target) → target_of (targetTag t) (targetAddress t) ≡ t
-unfolding target_of targetTag targetAddress
+target-back : (t : Target) → target_of (target_tag t) (target_address t) ≡ t
+unfolding target_of target_tag target_address
 target-back (Data a) = refl
 target-back (Status a) = refl
 
 -- ---- stages
 
-chip-stage-back : (s : Stage) (fields rest : List ℕ) → chipStageOf ((padded 12 (chipStageBytes s) ++ fields) ++ rest) ≡ s
-unfolding chipStageOf memoryOf chipStageBytes romBytes memoryBytes incomingBytes incomingOf outgoingBytes addressedOf outgoingOf
+chip-stage-back : (s : Stage) (fields rest : List ℕ) → chip_stage_of ((padded 12 (chip_stage_bytes s) ++ fields) ++ rest) ≡ s
+unfolding chip_stage_of memory_of chip_stage_bytes rom_bytes memory_bytes incoming_bytes incoming_of outgoing_bytes addressed_of outgoing_of
 chip-stage-back (Rom (RomCommand count register)) fields rest = refl
 chip-stage-back (Rom (Number step i)) fields rest = rw step_back
 chip-stage-back (Memory Silent) fields rest = refl
 chip-stage-back (Memory (Receive CommandByte count register crc)) fields rest = rw halves
 chip-stage-back (Memory (Receive (AddressLow c) count register crc)) fields rest = rw (halves, command-back)
 chip-stage-back (Memory (Receive (AddressHigh c low) count register crc)) fields rest = rw (halves, command-back)
-chip-stage-back (Memory (Receive (DataByte mode t) count register crc)) fields rest = rw (halves (targetAddress t), halves crc, mode-back, target-back)
+chip-stage-back (Memory (Receive (DataByte mode t) count register crc)) fields rest = rw (halves (target_address t), halves crc, mode-back, target-back)
 chip-stage-back (Memory (Send (MemoryData a) left bits crc)) fields rest = rw (halves a.0, halves bits, halves crc)
 chip-stage-back (Memory (Send MemoryCrc left bits crc)) fields rest = rw (halves bits, halves crc)
 chip-stage-back (Memory (Send (StatusData a) left bits crc)) fields rest = rw (halves a.0, halves bits, halves crc)
@@ -139,27 +139,27 @@ chip-stage-back (Memory (Send (RedirectionByte a) left bits crc)) fields rest = 
 chip-stage-back (Memory (Send (RedirectionCrc a) left bits crc)) fields rest = rw (halves a.0, halves bits, halves crc)
 chip-stage-back (Memory (Send (PageData a) left bits crc)) fields rest = rw (halves a.0, halves bits, halves crc)
 chip-stage-back (Memory (Send (PageCrc a) left bits crc)) fields rest = rw (halves a.0, halves bits, halves crc)
-chip-stage-back (Memory (Send (WriteCrc t byte) left bits crc)) fields rest = rw (halves (targetAddress t), halves bits, halves crc, target-back)
-chip-stage-back (Memory (Send (ReadBack mode t) left bits crc)) fields rest = rw (halves (targetAddress t), halves bits, halves crc, mode-back, target-back)
-chip-stage-back (Memory (Armed mode t byte)) fields rest = rw (halves (targetAddress t), mode-back, target-back)
+chip-stage-back (Memory (Send (WriteCrc t byte) left bits crc)) fields rest = rw (halves (target_address t), halves bits, halves crc, target-back)
+chip-stage-back (Memory (Send (ReadBack mode t) left bits crc)) fields rest = rw (halves (target_address t), halves bits, halves crc, mode-back, target-back)
+chip-stage-back (Memory (Armed mode t byte)) fields rest = rw (halves (target_address t), mode-back, target-back)
 
 -- ---- states
 
-chip : Laws 8 12 (λ s. chipStageBytes s.stage) (λ s. []) (λ s. s.number) (λ b. chipAt b (chipStageOf b)) chipNone
-unfolding chipBytes
+chip : Laws 8 12 (λ s. chip_stage_bytes s.stage) (λ s. []) (λ s. s.number) (λ b. chip_at b (chip_stage_of b)) chip_none
+unfolding chip_bytes
 chip = laws _ _ _ _ _ _ _ (omega arith) (λ b. refl) refl back
   where
-    back : (s : State) → rest_at 8 (chipBytes s) ≡ s.number → chipAt (chipBytes s) (chipStageOf (chipBytes s)) ≡ s
+    back : (s : State) → rest_at 8 (chip_bytes s) ≡ s.number → chip_at (chip_bytes s) (chip_stage_of (chip_bytes s)) ≡ s
     back s rest = simp (chip-stage-back s.stage (padded 4 []) s.number, rest)
 
-pub chip-held : (b : List ℕ) → length b ≡ 24 → chipStateOf b ≡ chipAt b (chipStageOf b)
-unfolding chipStateOf
+pub chip-held : (b : List ℕ) → length b ≡ 24 → chip_state_of b ≡ chip_at b (chip_stage_of b)
+unfolding chip_state_of
 chip-held b e = chip.held b e
 
-pub chip-judged : (b : List ℕ) → length b ≡ 24 → isChipState b ≡ (chipStageOwn b && same 12 (replicate 4 0) b)
-unfolding isChipState chipStageOwn chipStateOf chipBytes
+pub chip-judged : (b : List ℕ) → length b ≡ 24 → is_chip_state b ≡ (chip_stage_own b && same 12 (replicate 4 0) b)
+unfolding is_chip_state chip_stage_own chip_state_of chip_bytes
 chip-judged b e = chip.judged b e
 
 pub chip-packing : ChipPacking
-unfolding chipBytes chipStateOf isChipState
+unfolding chip_bytes chip_state_of is_chip_state
 chip-packing = chip.inverse

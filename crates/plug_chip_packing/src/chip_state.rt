@@ -1,12 +1,12 @@
 // The chip's state as 24 bytes: specs/Chip.antt has the layout.
 ghost use Rattle.std.specs.Prelude.{◌≡◌, true, [], ◌∷◌, ◌++◌, ◌+◌, ◌<◌, length};
-ghost use Rattle.base_types.specs.Outcome.{judgedOutcome};
+ghost use Rattle.base_types.specs.Outcome.{judged_outcome};
 ghost use Rattle.chip_stage.specs.declared.stage.MemoryStage.TheVariants.{Receive, Send};
 ghost use Rattle.plug_fields.specs.Fields.{word, front};
-ghost use Rattle.plug_chip_packing.specs.Chip.{writeTag, commandTag, commandOf, targetTag, targetAddress, targetBytes, target_of, stepTag, romStepOf};
-ghost use Rattle.plug_chip_packing.specs.Chip.{romBytes, memoryBytes, chipStageBytes, wordAt, targetAt, incomingOf, addressedOf, outgoingOf, memoryOf, chipStageOf};
-ghost use Rattle.plug_chip_packing.specs.Chip.{chipAt, chipNone, chipBytes, chipStateOf, isChipState, chipJudged, chipPacked, chipBuffer};
-ghost use Rattle.plug_chip_packing.specs.Code.Chip.{incomingOwn, outgoingOwn, chipStageOwn};
+ghost use Rattle.plug_chip_packing.specs.Chip.{write_tag, command_tag, command_of, target_tag, target_address, target_bytes, target_of, step_tag, rom_step_of};
+ghost use Rattle.plug_chip_packing.specs.Chip.{rom_bytes, memory_bytes, chip_stage_bytes, word_at, target_at, incoming_of, addressed_of, outgoing_of, memory_of, chip_stage_of};
+ghost use Rattle.plug_chip_packing.specs.Chip.{chip_at, chip_none, chip_bytes, chip_state_of, is_chip_state, chip_judged, chip_packed, chip_buffer};
+ghost use Rattle.plug_chip_packing.specs.Code.Chip.{incoming_own, outgoing_own, chip_stage_own};
 
 use base_types::address::{DataAddress, Space, StatusAddress, Target};
 use base_types::refusal::{Judged, Refusal};
@@ -25,7 +25,7 @@ pub struct Unpacked {
 // ---- enums by a number
 
 fn number_of_write(mode: WriteMode, space: Space) -> u8
-    ensures { result ≡ writeTag mode space }
+    ensures { result ≡ write_tag mode space }
 {
     match mode {
         WriteMode::Ordinary => match space {
@@ -40,7 +40,7 @@ fn number_of_write(mode: WriteMode, space: Space) -> u8
 }
 
 fn number_of_command(command: Command) -> u8
-    ensures { result ≡ commandTag command }
+    ensures { result ≡ command_tag command }
 {
     match command {
         Command::ReadMemory => 0,
@@ -51,7 +51,7 @@ fn number_of_command(command: Command) -> u8
 }
 
 fn command_of(number: u8) -> Command
-    ensures { result ≡ commandOf number }
+    ensures { result ≡ command_of number }
 {
     match number {
         0 => Command::ReadMemory,
@@ -65,7 +65,7 @@ fn command_of(number: u8) -> Command
 }
 
 fn number_of_step(step: RomStep) -> u8
-    ensures { result ≡ stepTag step }
+    ensures { result ≡ step_tag step }
 {
     match step {
         RomStep::Read => 0,
@@ -77,7 +77,7 @@ fn number_of_step(step: RomStep) -> u8
 }
 
 fn step_of(number: u8) -> RomStep
-    ensures { result ≡ romStepOf number }
+    ensures { result ≡ rom_step_of number }
 {
     match number {
         0 => RomStep::Read,
@@ -89,7 +89,7 @@ fn step_of(number: u8) -> RomStep
 }
 
 fn number_of_target(target: Target) -> u8
-    ensures { result ≡ targetTag target }
+    ensures { result ≡ target_tag target }
 {
     match target {
         Target::Data(_) => 0,
@@ -98,7 +98,7 @@ fn number_of_target(target: Target) -> u8
 }
 
 fn address_of_target(target: Target) -> u16
-    ensures { result ≡ targetAddress target }
+    ensures { result ≡ target_address target }
 {
     match target {
         Target::Data(a) => a.0,
@@ -118,7 +118,7 @@ fn target_of(number: u8, address: u16) -> Target
 // ---- into bytes
 
 fn front_of_rom(stage: RomStage) -> [u8; 16]
-    ensures { result ≡ front 12 (romBytes stage) [] }
+    ensures { result ≡ front 12 (rom_bytes stage) [] }
 {
     match stage {
         RomStage::Command(n, x) => [1, n, x, 0, 0, 0, 0, 0, 0, 0, 0, 0, 0, 0, 0, 0],
@@ -130,7 +130,7 @@ fn front_of_rom(stage: RomStage) -> [u8; 16]
 }
 
 fn front_of_receive(incoming: Incoming, n: u8, x: u8, crc: u16) -> [u8; 16]
-    ensures { result ≡ front 12 (memoryBytes (Receive incoming n x crc)) [] }
+    ensures { result ≡ front 12 (memory_bytes (Receive incoming n x crc)) [] }
 {
     let l = plug_fields::low(crc);
     let h = plug_fields::high(crc);
@@ -200,7 +200,7 @@ fn sent(left: u8, bits: u16, crc: u16, tag: u8, a: u16) -> [u8; 16]
 
 // Something is sent that has a tag, a byte and a target.
 fn aimed(left: u8, bits: u16, crc: u16, tag: u8, x: u8, target: Target) -> [u8; 16]
-    ensures { result ≡ front 12 (4 ∷ left ∷ word bits ++ word crc ++ tag ∷ x ∷ targetBytes target) [] }
+    ensures { result ≡ front 12 (4 ∷ left ∷ word bits ++ word crc ++ tag ∷ x ∷ target_bytes target) [] }
 {
     let b = plug_fields::low(bits);
     let d = plug_fields::high(bits);
@@ -229,7 +229,7 @@ fn aimed(left: u8, bits: u16, crc: u16, tag: u8, x: u8, target: Target) -> [u8; 
 }
 
 fn front_of_send(outgoing: Outgoing, left: u8, bits: u16, crc: u16) -> [u8; 16]
-    ensures { result ≡ front 12 (memoryBytes (Send outgoing left bits crc)) [] }
+    ensures { result ≡ front 12 (memory_bytes (Send outgoing left bits crc)) [] }
 {
     match outgoing {
         Outgoing::MemoryData(a) => sent(left, bits, crc, 0, a.0),
@@ -255,7 +255,7 @@ fn front_of_send(outgoing: Outgoing, left: u8, bits: u16, crc: u16) -> [u8; 16]
 }
 
 fn front_of_memory(stage: MemoryStage) -> [u8; 16]
-    ensures { result ≡ front 12 (memoryBytes stage) [] }
+    ensures { result ≡ front 12 (memory_bytes stage) [] }
 {
     match stage {
         MemoryStage::Silent => [0, 0, 0, 0, 0, 0, 0, 0, 0, 0, 0, 0, 0, 0, 0, 0],
@@ -288,7 +288,7 @@ fn front_of_memory(stage: MemoryStage) -> [u8; 16]
 }
 
 fn front_of(stage: Stage) -> [u8; 16]
-    ensures { result ≡ front 12 (chipStageBytes stage) [] }
+    ensures { result ≡ front 12 (chip_stage_bytes stage) [] }
 {
     match stage {
         Stage::Rom(r) => front_of_rom(r),
@@ -302,7 +302,7 @@ fn front_of(stage: Stage) -> [u8; 16]
 
 fn incoming_own(b: &[u8]) -> bool
     requires { length b.now ≡ 24 }
-    ensures { result ≡ incomingOwn b.now }
+    ensures { result ≡ incoming_own b.now }
 {
     let x = b[6];
     match b[5] {
@@ -319,7 +319,7 @@ fn incoming_own(b: &[u8]) -> bool
 
 fn outgoing_own(b: &[u8]) -> bool
     requires { length b.now ≡ 24 }
-    ensures { result ≡ outgoingOwn b.now }
+    ensures { result ≡ outgoing_own b.now }
 {
     match b[6] {
         1 => plug_fields::zeros(b, 7, 12),
@@ -334,7 +334,7 @@ fn outgoing_own(b: &[u8]) -> bool
 
 fn stage_own(b: &[u8]) -> bool
     requires { length b.now ≡ 24 }
-    ensures { result ≡ chipStageOwn b.now }
+    ensures { result ≡ chip_stage_own b.now }
 {
     match b[0] {
         0 => plug_fields::zeros(b, 1, 12),
@@ -352,21 +352,21 @@ fn stage_own(b: &[u8]) -> bool
 
 fn word_at(b: &[u8], i: usize) -> u16
     requires { i + 1 < length b.now }
-    ensures { result ≡ wordAt b.now i }
+    ensures { result ≡ word_at b.now i }
 {
     plug_fields::join(b[i], b[i + 1])
 }
 
 fn target_at(b: &[u8], i: usize) -> Target
     requires { i + 2 < length b.now }
-    ensures { result ≡ targetAt b.now i }
+    ensures { result ≡ target_at b.now i }
 {
     target_of(b[i], word_at(b, i + 1))
 }
 
 fn incoming_of(b: &[u8]) -> Incoming
     requires { length b.now ≡ 24 }
-    ensures { result ≡ incomingOf b.now }
+    ensures { result ≡ incoming_of b.now }
 {
     match b[5] {
         1 => Incoming::AddressLow(command_of(b[6])),
@@ -378,7 +378,7 @@ fn incoming_of(b: &[u8]) -> Incoming
 
 // What is sent and has an address alone; the CRC of memory, which has none, for a number that is that of none of these.
 fn addressed_of(number: u8, address: u16) -> Outgoing
-    ensures { result ≡ addressedOf number address }
+    ensures { result ≡ addressed_of number address }
 {
     match number {
         0 => Outgoing::MemoryData(DataAddress(address)),
@@ -394,7 +394,7 @@ fn addressed_of(number: u8, address: u16) -> Outgoing
 
 fn outgoing_of(b: &[u8]) -> Outgoing
     requires { length b.now ≡ 24 }
-    ensures { result ≡ outgoingOf b.now }
+    ensures { result ≡ outgoing_of b.now }
 {
     match b[6] {
         8 => Outgoing::WriteCrc(target_at(b, 8), b[7]),
@@ -405,7 +405,7 @@ fn outgoing_of(b: &[u8]) -> Outgoing
 
 fn memory_of(b: &[u8]) -> MemoryStage
     requires { length b.now ≡ 24 }
-    ensures { result ≡ memoryOf b.now }
+    ensures { result ≡ memory_of b.now }
 {
     let x = b[1];
     let y = b[2];
@@ -419,7 +419,7 @@ fn memory_of(b: &[u8]) -> MemoryStage
 
 fn stage_of(b: &[u8]) -> Stage
     requires { length b.now ≡ 24 }
-    ensures { result ≡ chipStageOf b.now }
+    ensures { result ≡ chip_stage_of b.now }
 {
     match b[0] {
         1 => Stage::Rom(RomStage::Command(b[1], b[2])),
@@ -432,7 +432,7 @@ fn stage_of(b: &[u8]) -> Stage
 
 fn state_at(b: &[u8]) -> State
     requires { length b.now ≡ 24 }
-    ensures { result ≡ chipAt b.now (chipStageOf b.now) }
+    ensures { result ≡ chip_at b.now (chip_stage_of b.now) }
 {
     State {
         stage: stage_of(b),
@@ -441,7 +441,7 @@ fn state_at(b: &[u8]) -> State
 }
 
 fn none() -> State
-    ensures { result ≡ chipNone }
+    ensures { result ≡ chip_none }
 {
     State {
         stage: Stage::Memory(MemoryStage::Silent),
@@ -452,8 +452,8 @@ fn none() -> State
 // The state of 24 bytes. Refused: 2 for bytes of another length and for bytes that are those of no state. A state out of its ranges
 // is no matter here: the chip refuses it.
 pub fn unpack(bytes: &[u8]) -> Unpacked
-    ensures judged { judgedOutcome result.judged ≡ chipJudged bytes.now }
-    ensures state { result.state ≡ chipStateOf bytes.now }
+    ensures judged { judged_outcome result.judged ≡ chip_judged bytes.now }
+    ensures state { result.state ≡ chip_state_of bytes.now }
 {
     if bytes.len() != 24 {
         return Unpacked {
@@ -470,10 +470,10 @@ pub fn unpack(bytes: &[u8]) -> Unpacked
 
 // A state into a buffer of 24 bytes. Refused: 10. What is left there holds that state and is accepted by unpack.
 pub fn pack(state: State, bytes: &mut [u8]) -> Judged
-    ensures answer { judgedOutcome result ≡ chipPacked bytes.old }
-    ensures bytes { bytes.new ≡ chipBuffer state bytes.old }
-    ensures back { chipStateOf (chipBytes state) ≡ state }
-    ensures kept { isChipState (chipBytes state) ≡ true }
+    ensures answer { judged_outcome result ≡ chip_packed bytes.old }
+    ensures bytes { bytes.new ≡ chip_buffer state bytes.old }
+    ensures back { chip_state_of (chip_bytes state) ≡ state }
+    ensures kept { is_chip_state (chip_bytes state) ≡ true }
 {
     let stage = state.stage;
     let number = state.number;

@@ -15,7 +15,7 @@ use Rattle.base_types.specs.declared.write_mode.WriteMode.{WriteMode}
 use Rattle.base_types.specs.declared.write_mode.WriteMode.TheVariants.{Ordinary, Quick}
 use Rattle.chip_memory.specs.Page.{copied}
 use Rattle.chip_memory.proofs.Pages.{copied-same, copied-length}
-use Rattle.plug_fields.specs.Fields.{padded, front, same, rest_at, isCopy, Inverse, modeByte, mode_of}
+use Rattle.plug_fields.specs.Fields.{padded, front, same, rest_at, is_copy, Inverse, mode_byte, mode_of}
 
 -- ---- a byte, a 16-bit number, zeros, a refusal
 
@@ -34,14 +34,14 @@ halves x = omega arith
 pub past : (k x : ℕ) → k < x → eqb x k ≡ false
 past k x h = ne_eqb x k (omega arith)
 
-pub mode-good : (x : ℕ) → eqb x (modeByte (mode_of x)) ≡ ltb x 2
-unfolding modeByte mode_of
+pub mode-good : (x : ℕ) → eqb x (mode_byte (mode_of x)) ≡ ltb x 2
+unfolding mode_byte mode_of
 mode-good zero = refl
 mode-good (suc zero) = refl
 mode-good (suc (suc x)) = let h : 2 ≤ (suc (suc x)) = omega arith in rw (past 0 (suc (suc x)) (omega arith), past 1 (suc (suc x)) (omega arith), le-ltb _ _ h)
 
-pub mode-back : (m : WriteMode) → mode_of (modeByte m) ≡ m
-unfolding modeByte mode_of
+pub mode-back : (m : WriteMode) → mode_of (mode_byte m) ≡ m
+unfolding mode_byte mode_of
 mode-back Ordinary = refl
 mode-back Quick = refl
 
@@ -241,8 +241,8 @@ whole_same n f b long e =
     same-append 0 f (rest_at n b) b ∙ rw (rest_all n b e, long, same-tail 16 b) (and-true (same 0 f b))
 
 -- what the laws are about: the bytes of a state, and the state of bytes
-abbrev pub bytesBy : {S : Type 0} → ℕ → (S → List ℕ) → (S → List ℕ) → (S → List ℕ) → S → List ℕ
-bytesBy r enum fields array s = front r (enum s) (fields s) ++ array s
+abbrev pub bytes_by : {S : Type 0} → ℕ → (S → List ℕ) → (S → List ℕ) → (S → List ℕ) → S → List ℕ
+bytes_by r enum fields array s = front r (enum s) (fields s) ++ array s
 
 abbrev pub read_by : {S : Type 0} → ℕ → (List ℕ → S) → S → List ℕ → S
 read_by n at none b = cond (eqb (length b) (16 + n)) (at b) none
@@ -250,19 +250,19 @@ read_by n at none b = cond (eqb (length b) (16 + n)) (at b) none
 pub record Laws {S : Type 0} (n r : ℕ) (enum fields array : S → List ℕ) (at : List ℕ → S) (none : S) : Type 0 where
   pub held : (b : List ℕ) → length b ≡ 16 + n → read_by n at none b ≡ at b
   pub judged : (b : List ℕ) → length b ≡ 16 + n
-      → isCopy (16 + n) (bytesBy r enum fields array (read_by n at none b)) b
+      → is_copy (16 + n) (bytes_by r enum fields array (read_by n at none b)) b
       ≡ (same 0 (padded r (enum (at b))) b && same r (padded (16 - r) (fields (at b))) b)
-  pub inverse : Inverse n (bytesBy r enum fields array) array (read_by n at none) (λ b. isCopy (16 + n) (bytesBy r enum fields array (read_by n at none b)) b)
+  pub inverse : Inverse n (bytes_by r enum fields array) array (read_by n at none) (λ b. is_copy (16 + n) (bytes_by r enum fields array (read_by n at none b)) b)
 
 -- of a state with its enum in r of the front's sixteen bytes and an array of n, read by `at` where the bytes are so many
 module _ {S : Type 0} (n r : ℕ) (enum fields array : S → List ℕ) (at : List ℕ → S) (none : S)
     (fits : r ≤ 16) (own : (b : List ℕ) → array (at b) ≡ rest_at n b) (empty : length (array none) ≡ n)
-    (back : (s : S) → rest_at n (bytesBy r enum fields array s) ≡ array s → at (bytesBy r enum fields array s) ≡ s) where
+    (back : (s : S) → rest_at n (bytes_by r enum fields array s) ≡ array s → at (bytes_by r enum fields array s) ≡ s) where
   abbrev of : List ℕ → S
   of = read_by n at none
 
   abbrev bytes : S → List ℕ
-  bytes = bytesBy r enum fields array
+  bytes = bytes_by r enum fields array
 
   long : (s : S) → length (front r (enum s) (fields s)) ≡ 16
   long s = front_length r fits (enum s) (fields s)
@@ -271,8 +271,8 @@ module _ {S : Type 0} (n r : ℕ) (enum fields array : S → List ℕ) (at : Lis
   held b e = simp (eq-eqb _ _ e)
 
   judged : (b : List ℕ) → length b ≡ 16 + n
-      → isCopy (16 + n) (bytes (of b)) b ≡ (same 0 (padded r (enum (at b))) b && same r (padded (16 - r) (fields (at b))) b)
-  unfolding isCopy
+      → is_copy (16 + n) (bytes (of b)) b ≡ (same 0 (padded r (enum (at b))) b && same r (padded (16 - r) (fields (at b))) b)
+  unfolding is_copy
   judged b e =
       let s = at b in
       let z : 0 + r ≡ r = omega arith in
@@ -286,12 +286,12 @@ module _ {S : Type 0} (n r : ℕ) (enum fields array : S → List ℕ) (at : Lis
   state-back : (s : S) → length (array s) ≡ n → of (bytes s) ≡ s
   state-back s len = held (bytes s) (whole s len) ∙ back s (whole-rest n (front r (enum s) (fields s)) (array s) (long s) len)
 
-  state-kept : (s : S) → length (array s) ≡ n → isCopy (16 + n) (bytes (of (bytes s))) (bytes s) ≡ true
-  unfolding isCopy
+  state-kept : (s : S) → length (array s) ≡ n → is_copy (16 + n) (bytes (of (bytes s))) (bytes s) ≡ true
+  unfolding is_copy
   state-kept s len = rw (state-back s len, eq-eqb _ _ (whole s len)) (same-tail 0 (bytes s))
 
-  bytes_back : (b : List ℕ) → isCopy (16 + n) (bytes (of b)) b ≡ true → bytes (of b) ≡ b
-  unfolding isCopy
+  bytes_back : (b : List ℕ) → is_copy (16 + n) (bytes (of b)) b ≡ true → bytes (of b) ≡ b
+  unfolding is_copy
   bytes_back b e =
       let size : length b ≡ 16 + n = eqb-true _ _ (and_left (eqb (length b) (16 + n)) (same 0 (bytes (of b)) b) e) in
       let equal : same 0 (bytes (of b)) b ≡ true = and_right (eqb (length b) (16 + n)) (same 0 (bytes (of b)) b) e in

@@ -1,7 +1,7 @@
 -- States as bytes: the kinds of fields, the comparison of a state's bytes with others, and the whole in a buffer.
 use Rattle.std.specs.Prelude.{ℕ, zero, suc, ◌+◌, ◌-◌, ◌*◌, ◌/◌, ◌%◌, ◌≡◌, Bool, true, cond, ◌&&◌, List, [], ◌∷◌, ◌++◌, eqb, length, get_or, drop, replicate}
 use Rattle.base_types.specs.Refusal.{number_of, values_of}
-use Rattle.base_types.specs.Outcome.{Outcome, accepted, judge, Done, done, unlessRefused}
+use Rattle.base_types.specs.Outcome.{Outcome, accepted, judge, Done, done, unless_refused}
 use Rattle.base_types.specs.declared.refusal.Refusal.{Refusal}
 use Rattle.base_types.specs.declared.write_mode.WriteMode.{WriteMode}
 use Rattle.base_types.specs.declared.write_mode.WriteMode.TheVariants.{Ordinary, Quick}
@@ -34,33 +34,33 @@ unfoldable pub rest_at : ℕ → List ℕ → List ℕ
 rest_at n b = copied (drop 16 b) (replicate n 0)
 
 -- the bytes b are so many, and these
-unfoldable pub isCopy : ℕ → List ℕ → List ℕ → Bool
-isCopy size whole b = eqb (length b) size && same 0 whole b
+unfoldable pub is_copy : ℕ → List ℕ → List ℕ → Bool
+is_copy size whole b = eqb (length b) size && same 0 whole b
 
 -- a state with an array of n bytes after its front: packing and unpacking are inverse
-pub record Inverse {S : Type 0} (n : ℕ) (bytes : S → List ℕ) (array : S → List ℕ) (of : List ℕ → S) (isState : List ℕ → Bool) : Type 0 where
+pub record Inverse {S : Type 0} (n : ℕ) (bytes : S → List ℕ) (array : S → List ℕ) (of : List ℕ → S) (is_state : List ℕ → Bool) : Type 0 where
   -- bytes that are accepted are those of the state that they hold
-  pub bytes_back : (b : List ℕ) → isState b ≡ true → bytes (of b) ≡ b
+  pub bytes_back : (b : List ℕ) → is_state b ≡ true → bytes (of b) ≡ b
   -- a state's bytes hold it, and they are accepted
   pub state-back : (s : S) → length (array s) ≡ n → of (bytes s) ≡ s
-  pub state-kept : (s : S) → length (array s) ≡ n → isState (bytes s) ≡ true
+  pub state-kept : (s : S) → length (array s) ≡ n → is_state (bytes s) ≡ true
 
 -- 2, or accepted
-abbrev pub judgedBy : Bool → Outcome Done
-judgedBy good = judge good 2 (accepted done)
+abbrev pub judged_by : Bool → Outcome Done
+judged_by good = judge good 2 (accepted done)
 
 -- the bytes of a state, so many, into a buffer: 10, or accepted; a refusal leaves the buffer
-unfoldable pub bufferOutcome : ℕ → List ℕ → Outcome Done
-bufferOutcome size buffer = judge (eqb (length buffer) size) 10 (accepted done)
+unfoldable pub buffer_outcome : ℕ → List ℕ → Outcome Done
+buffer_outcome size buffer = judge (eqb (length buffer) size) 10 (accepted done)
 
-unfoldable pub bufferAfter : ℕ → List ℕ → List ℕ → List ℕ
-bufferAfter size whole buffer = unlessRefused (bufferOutcome size buffer) whole buffer
+unfoldable pub buffer_after : ℕ → List ℕ → List ℕ → List ℕ
+buffer_after size whole buffer = unless_refused (buffer_outcome size buffer) whole buffer
 
 -- ---- the mode of a write
 
-unfoldable pub modeByte : WriteMode → ℕ
-modeByte Ordinary = 0
-modeByte Quick = 1
+unfoldable pub mode_byte : WriteMode → ℕ
+mode_byte Ordinary = 0
+mode_byte Quick = 1
 
 unfoldable pub mode_of : ℕ → WriteMode
 mode_of number = cond (eqb number 0) Ordinary Quick
@@ -70,9 +70,9 @@ mode_of number = cond (eqb number 0) Ordinary Quick
 unfoldable pub value_of : Refusal → ℕ
 value_of r = get_or (values_of r) 0 0
 
-abbrev pub refusalBytes : Refusal → List ℕ
-refusalBytes r = number_of r ∷ value_of r ∷ []
+abbrev pub refusal_bytes : Refusal → List ℕ
+refusal_bytes r = number_of r ∷ value_of r ∷ []
 
 -- these are its bytes
-abbrev pub isRefusal : Refusal → ℕ → ℕ → Bool
-isRefusal r number value = eqb number (number_of r) && eqb value (value_of r)
+abbrev pub is_refusal : Refusal → ℕ → ℕ → Bool
+is_refusal r number value = eqb number (number_of r) && eqb value (value_of r)

@@ -1,8 +1,8 @@
 // States as bytes, the kinds of fields: a byte, a 16-bit number, an enum by a number, zeros, an array; and the whole in a buffer.
 ghost use Rattle.std.specs.Prelude.{◌≡◌, ◌&&◌, ◌++◌, ◌+◌, ◌-◌, ◌/◌, ◌%◌, ◌≤◌, length, replicate};
 ghost use Rattle.base_types.specs.Bits.{one};
-ghost use Rattle.base_types.specs.Outcome.{judgedOutcome};
-ghost use Rattle.plug_fields.specs.Fields.{joined, same, rest_at, judgedBy, bufferOutcome, bufferAfter, value_of, isRefusal, modeByte, mode_of};
+ghost use Rattle.base_types.specs.Outcome.{judged_outcome};
+ghost use Rattle.plug_fields.specs.Fields.{joined, same, rest_at, judged_by, buffer_outcome, buffer_after, value_of, is_refusal, mode_byte, mode_of};
 
 use base_types::refusal;
 use base_types::refusal::{Given, Judged, Refusal};
@@ -69,7 +69,7 @@ pub fn number_of_flag(flag: bool) -> u8
 }
 
 pub fn number_of_mode(mode: WriteMode) -> u8
-    ensures { result ≡ modeByte mode }
+    ensures { result ≡ mode_byte mode }
 {
     match mode {
         WriteMode::Ordinary => 0,
@@ -113,7 +113,7 @@ pub fn page_of(bytes: &[u8]) -> [u8; 32]
 // ---- the whole
 
 pub fn judge(good: bool) -> Judged
-    ensures { judgedOutcome result ≡ judgedBy good }
+    ensures { judged_outcome result ≡ judged_by good }
 {
     if good {
         Judged::Accepted
@@ -132,8 +132,8 @@ fn fill(front: [u8; 16], rest: &[u8], bytes: &mut [u8])
 
 // A front and the rest into a buffer as long as both. Refused: 10.
 pub fn put(front: [u8; 16], rest: &[u8], bytes: &mut [u8]) -> Judged
-    ensures answer { judgedOutcome result ≡ bufferOutcome (16 + length rest.now) bytes.old }
-    ensures bytes { bytes.new ≡ bufferAfter (16 + length rest.now) (front ++ rest.now) bytes.old }
+    ensures answer { judged_outcome result ≡ buffer_outcome (16 + length rest.now) bytes.old }
+    ensures bytes { bytes.new ≡ buffer_after (16 + length rest.now) (front ++ rest.now) bytes.old }
 {
     if bytes.len() != 16 + rest.len() {
         return Judged::Refused(Refusal::BufferLength);
@@ -156,7 +156,7 @@ pub fn value_of(refusal: Refusal) -> u8
 
 // These are the bytes of a refusal.
 pub fn is_refusal(refusal: Refusal, number: u8, value: u8) -> bool
-    ensures { result ≡ isRefusal refusal number value }
+    ensures { result ≡ is_refusal refusal number value }
 {
     both(
         number == refusal::number(refusal),

@@ -5,38 +5,38 @@ use mathlib.Core.Bool.{Bool, true, false}
 use mathlib.Core.List.{List}
 use lib.Dec.{eqb}
 use lib.ListN.{length}
-use Rattle.base_types.specs.Outcome.{accepted, judge, done, unlessRefused}
-use Rattle.chip_memory.specs.Layout.{isImage, isPage}
-use Rattle.chip_memory.specs.Image.{pageBytes}
-use Rattle.chip_images.specs.Walk.{walkAnswer}
-use Rattle.chip_images.specs.Free.{freeAnswer}
-use Rattle.chip_images.specs.Page.{copyAnswer, copyBuffer}
-use Rattle.plug_answers.specs.Calls.{pageNumber}
+use Rattle.base_types.specs.Outcome.{accepted, judge, done, unless_refused}
+use Rattle.chip_memory.specs.Layout.{is_image, is_page}
+use Rattle.chip_memory.specs.Image.{page_bytes}
+use Rattle.chip_images.specs.Walk.{walk_answer}
+use Rattle.chip_images.specs.Free.{free_answer}
+use Rattle.chip_images.specs.Page.{copy_answer, copy_buffer}
+use Rattle.plug_answers.specs.Calls.{page_number}
 use Rattle.plug_answers.proofs.Pages.{same_at}
 
 -- a refusal leaves the buffer
-kept : (a b : Bool) (new old : List ℕ) → unlessRefused (judge a 1 (judge b 10 (judge false 3 (accepted done)))) new old ≡ old
+kept : (a b : Bool) (new old : List ℕ) → unless_refused (judge a 1 (judge b 10 (judge false 3 (accepted done)))) new old ≡ old
 kept false b new old = refl
 kept true false new old = refl
 kept true true new old = refl
 
 module _ (img : List ℕ) where
-  pub walk_same : (p : ℕ) → walkAnswer 64 img (pageNumber p) ≡ walkAnswer 64 img p
-  unfolding walkAnswer
-  walk_same = same_at (walkAnswer 64 img) (λ p q e f. simp (e, f))
+  pub walk_same : (p : ℕ) → walk_answer 64 img (page_number p) ≡ walk_answer 64 img p
+  unfolding walk_answer
+  walk_same = same_at (walk_answer 64 img) (λ p q e f. simp (e, f))
 
-  pub free-same : (p : ℕ) → freeAnswer 64 img (pageNumber p) ≡ freeAnswer 64 img p
-  unfolding freeAnswer
-  free-same = same_at (freeAnswer 64 img) (λ p q e f. simp (e, f))
+  pub free-same : (p : ℕ) → free_answer 64 img (page_number p) ≡ free_answer 64 img p
+  unfolding free_answer
+  free-same = same_at (free_answer 64 img) (λ p q e f. simp (e, f))
 
   module _ (buffer : List ℕ) where
-    pub copy-same : (p : ℕ) → copyAnswer 64 img (pageNumber p) buffer ≡ copyAnswer 64 img p buffer
-    unfolding copyAnswer
-    copy-same = same_at (λ p. copyAnswer 64 img p buffer) (λ p q e f. simp (e, f))
+    pub copy-same : (p : ℕ) → copy_answer 64 img (page_number p) buffer ≡ copy_answer 64 img p buffer
+    unfolding copy_answer
+    copy-same = same_at (λ p. copy_answer 64 img p buffer) (λ p q e f. simp (e, f))
 
-    left : (p : ℕ) → isPage 64 p ≡ false → copyBuffer 64 img p buffer ≡ buffer
-    unfolding copyAnswer copyBuffer
-    left p e = simp e (kept (isImage 64 img) (eqb (length buffer) 32) (pageBytes img p) buffer)
+    left : (p : ℕ) → is_page 64 p ≡ false → copy_buffer 64 img p buffer ≡ buffer
+    unfolding copy_answer copy_buffer
+    left p e = simp e (kept (is_image 64 img) (eqb (length buffer) 32) (page_bytes img p) buffer)
 
-    pub copied-same : (p : ℕ) → copyBuffer 64 img (pageNumber p) buffer ≡ copyBuffer 64 img p buffer
-    copied-same = same_at (λ p. copyBuffer 64 img p buffer) (λ p q e f. left p e ∙ sym (left q f))
+    pub copied-same : (p : ℕ) → copy_buffer 64 img (page_number p) buffer ≡ copy_buffer 64 img p buffer
+    copied-same = same_at (λ p. copy_buffer 64 img p buffer) (λ p q e f. left p e ∙ sym (left q f))

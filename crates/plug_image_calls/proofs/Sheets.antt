@@ -5,40 +5,40 @@ use mathlib.Core.Bool.{Bool, true, false}
 use mathlib.Core.List.{List}
 use lib.ListN.{length}
 use borrow.Author.Tests.{eqb-true}
-use Rattle.base_types.specs.Outcome.{Outcome, Done, unlessRefused}
-use Rattle.chip_memory.specs.Layout.{imageSize, isImage}
+use Rattle.base_types.specs.Outcome.{Outcome, Done, unless_refused}
+use Rattle.chip_memory.specs.Layout.{image_size, is_image}
 use Rattle.chip_memory.specs.Page.{copied}
 use Rattle.chip_memory.proofs.Pages.{copied-same}
-use Rattle.plug_sheet.specs.Stored.{isSheet, sheetAnswer, numberPart, imagePart}
+use Rattle.plug_sheet.specs.Stored.{is_sheet, sheet_answer, number_part, image_part}
 use Rattle.plug_sheet.proofs.Sheets.{sheet-laws}
-use Rattle.plug_answers.specs.Answers.{code_in, isNumberBuffer}
-use Rattle.plug_image_calls.specs.Sheet.{sheetRead, readNumber, readImage}
+use Rattle.plug_answers.specs.Answers.{code_in, is_number_buffer}
+use Rattle.plug_image_calls.specs.Sheet.{sheet_read, read_number, read_image}
 
-module _ (n : ℕ) (sheet number img : List ℕ) (eight : isNumberBuffer number ≡ true) (sized : isImage n img ≡ true) where
-  number_fits : isSheet n sheet ≡ true → copied (numberPart n sheet) number ≡ numberPart n sheet
-  unfolding isNumberBuffer
-  number_fits e = copied-same (numberPart n sheet) number ((sheet-laws n).number-length sheet e ∙ sym (eqb-true (length number) 8 eight))
+module _ (n : ℕ) (sheet number img : List ℕ) (eight : is_number_buffer number ≡ true) (sized : is_image n img ≡ true) where
+  number_fits : is_sheet n sheet ≡ true → copied (number_part n sheet) number ≡ number_part n sheet
+  unfolding is_number_buffer
+  number_fits e = copied-same (number_part n sheet) number ((sheet-laws n).number-length sheet e ∙ sym (eqb-true (length number) 8 eight))
 
-  image-fits : isSheet n sheet ≡ true → copied (imagePart n sheet) img ≡ imagePart n sheet
-  unfolding isImage
+  image-fits : is_sheet n sheet ≡ true → copied (image_part n sheet) img ≡ image_part n sheet
+  unfolding is_image
   image-fits e =
-      copied-same (imagePart n sheet) img
-      (eqb-true (length (imagePart n sheet)) (imageSize n) ((sheet-laws n).image-length sheet e) ∙ sym (eqb-true (length img) (imageSize n) sized))
+      copied-same (image_part n sheet) img
+      (eqb-true (length (image_part n sheet)) (image_size n) ((sheet-laws n).image-length sheet e) ∙ sym (eqb-true (length img) (image_size n) sized))
 
   unfoldable Handed : Outcome Done → Type 0
   Handed told =
-      (code_in told ≡ code_in (sheetRead n sheet number img))
-      × ((unlessRefused told (copied (numberPart n sheet) number) number ≡ readNumber n sheet number img)
-      × (unlessRefused told (copied (imagePart n sheet) img) img ≡ readImage n sheet number img))
+      (code_in told ≡ code_in (sheet_read n sheet number img))
+      × ((unless_refused told (copied (number_part n sheet) number) number ≡ read_number n sheet number img)
+      × (unless_refused told (copied (image_part n sheet) img) img ≡ read_image n sheet number img))
 
-  handed : (b : Bool) → isSheet n sheet ≡ b → Handed (sheetAnswer n sheet)
-  unfolding Handed sheetAnswer sheetRead readNumber readImage
+  handed : (b : Bool) → is_sheet n sheet ≡ b → Handed (sheet_answer n sheet)
+  unfolding Handed sheet_answer sheet_read read_number read_image
   handed true e = (simp (e, eight, sized), (simp (e, eight, sized, number_fits e), simp (e, eight, sized, image-fits e)))
   handed false e = (simp (e, eight, sized), (simp (e, eight, sized), simp (e, eight, sized)))
 
-  pub handed-on : (told : Outcome Done) → told ≡ sheetAnswer n sheet
-      → (code_in told ≡ code_in (sheetRead n sheet number img))
-      × ((unlessRefused told (copied (numberPart n sheet) number) number ≡ readNumber n sheet number img)
-      × (unlessRefused told (copied (imagePart n sheet) img) img ≡ readImage n sheet number img))
+  pub handed-on : (told : Outcome Done) → told ≡ sheet_answer n sheet
+      → (code_in told ≡ code_in (sheet_read n sheet number img))
+      × ((unless_refused told (copied (number_part n sheet) number) number ≡ read_number n sheet number img)
+      × (unless_refused told (copied (image_part n sheet) img) img ≡ read_image n sheet number img))
   unfolding Handed
-  handed-on told e = subst Handed (sym e) (handed (isSheet n sheet) refl)
+  handed-on told e = subst Handed (sym e) (handed (is_sheet n sheet) refl)

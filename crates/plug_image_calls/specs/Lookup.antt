@@ -1,23 +1,23 @@
 -- The entries on the variation, over the page count n. The buffer for the answer, which only callers in C have, is judged after 1, with 10.
 use Rattle.std.specs.Prelude.{ℕ, ◌/◌, ◌%◌, true, List, [], ◌∷◌, ℤ}
-use Rattle.base_types.specs.Outcome.{Outcome, refused, accepted, judge, following, inOrder}
-use Rattle.chip_memory.specs.Layout.{isImage}
-use Rattle.base_tenths.specs.Tenths.{lowBits, changeAnswer}
-use Rattle.plug_lookup.specs.Lookup.{lookupAnswer}
-use Rattle.plug_sheet_lookup.specs.Lookup.{sheetValue}
-use Rattle.plug_answers.specs.Answers.{isAnswer}
+use Rattle.base_types.specs.Outcome.{Outcome, refused, accepted, judge, following, in_order}
+use Rattle.chip_memory.specs.Layout.{is_image}
+use Rattle.base_tenths.specs.Tenths.{low_bits, change_answer}
+use Rattle.plug_lookup.specs.Lookup.{lookup_answer}
+use Rattle.plug_sheet_lookup.specs.Lookup.{sheet_value}
+use Rattle.plug_answers.specs.Answers.{is_answer}
 
 -- tenths of a degree in sixteen bits, low byte first
-abbrev pub tenthsValues : Outcome ℤ → Outcome (List ℕ)
-tenthsValues (refused number values) = refused number values
-tenthsValues (accepted v) = accepted (lowBits v % 256 ∷ lowBits v / 256 % 256 ∷ [])
+abbrev pub tenths_values : Outcome ℤ → Outcome (List ℕ)
+tenths_values (refused number values) = refused number values
+tenths_values (accepted v) = accepted (low_bits v % 256 ∷ low_bits v / 256 % 256 ∷ [])
 
-unfoldable pub variationValues : ℕ → List ℕ → ℤ → ℕ → List ℕ → Outcome (List ℕ)
-variationValues n img latitude column answer =
-    following (inOrder (isImage n img) true (isAnswer answer)) (tenthsValues (lookupAnswer n img latitude column))
+unfoldable pub variation_values : ℕ → List ℕ → ℤ → ℕ → List ℕ → Outcome (List ℕ)
+variation_values n img latitude column answer =
+    following (in_order (is_image n img) true (is_answer answer)) (tenths_values (lookup_answer n img latitude column))
 
-unfoldable pub sheetVariationValues : ℕ → List ℕ → ℤ → ℕ → List ℕ → Outcome (List ℕ)
-sheetVariationValues n sheet latitude column answer = judge (isAnswer answer) 10 (tenthsValues (sheetValue n sheet latitude column))
+unfoldable pub sheet_variation_values : ℕ → List ℕ → ℤ → ℕ → List ℕ → Outcome (List ℕ)
+sheet_variation_values n sheet latitude column answer = judge (is_answer answer) 10 (tenths_values (sheet_value n sheet latitude column))
 
-unfoldable pub changeValues : ℤ → ℤ → List ℕ → Outcome (List ℕ)
-changeValues old new answer = judge (isAnswer answer) 10 (tenthsValues (changeAnswer old new))
+unfoldable pub change_values : ℤ → ℤ → List ℕ → Outcome (List ℕ)
+change_values old new answer = judge (is_answer answer) 10 (tenths_values (change_answer old new))

@@ -1,8 +1,8 @@
 // The variation at a latitude and a column, and the change from one value to another, once the buffers are judged.
 ghost use Rattle.std.specs.Prelude.{◌≡◌};
-ghost use Rattle.base_tenths.specs.Tenths.{tenthsOutcome};
+ghost use Rattle.base_tenths.specs.Tenths.{tenths_outcome};
 ghost use Rattle.plug_answers.specs.Answers.{code_in, answered};
-ghost use Rattle.plug_image_calls.specs.Lookup.{tenthsValues, variationValues, sheetVariationValues, changeValues};
+ghost use Rattle.plug_image_calls.specs.Lookup.{tenths_values, variation_values, sheet_variation_values, change_values};
 
 use base_tenths::Tenths;
 use base_types::address::Page;
@@ -11,8 +11,8 @@ use plug_answers::answer;
 
 // Tenths of a degree in sixteen bits, low byte first, or a refusal.
 fn tell_tenths(told: Tenths, answer: &mut [u8]) -> u32
-    ensures code { result ≡ code_in (tenthsValues (tenthsOutcome told)) }
-    ensures answer { answer.new ≡ answered (tenthsValues (tenthsOutcome told)) answer.old }
+    ensures code { result ≡ code_in (tenths_values (tenths_outcome told)) }
+    ensures answer { answer.new ≡ answered (tenths_values (tenths_outcome told)) answer.old }
 {
     match told {
         Tenths::Refused(r) => answer::refuse(r, answer),
@@ -26,8 +26,8 @@ fn tell_tenths(told: Tenths, answer: &mut [u8]) -> u32
 
 // From an image.
 pub fn variation(image: &[u8], latitude: i32, column: u32, answer: &mut [u8]) -> u32
-    ensures code { result ≡ code_in (variationValues 64 image.now latitude column answer.old) }
-    ensures answer { answer.new ≡ answered (variationValues 64 image.now latitude column answer.old) answer.old }
+    ensures code { result ≡ code_in (variation_values 64 image.now latitude column answer.old) }
+    ensures answer { answer.new ≡ answered (variation_values 64 image.now latitude column answer.old) answer.old }
 {
     if !layout::is_image(image, Page(layout::DS2505)) {
         return 1;
@@ -40,8 +40,8 @@ pub fn variation(image: &[u8], latitude: i32, column: u32, answer: &mut [u8]) ->
 
 // From a stored sheet.
 pub fn sheet_variation(sheet: &[u8], latitude: i32, column: u32, answer: &mut [u8]) -> u32
-    ensures code { result ≡ code_in (sheetVariationValues 64 sheet.now latitude column answer.old) }
-    ensures answer { answer.new ≡ answered (sheetVariationValues 64 sheet.now latitude column answer.old) answer.old }
+    ensures code { result ≡ code_in (sheet_variation_values 64 sheet.now latitude column answer.old) }
+    ensures answer { answer.new ≡ answered (sheet_variation_values 64 sheet.now latitude column answer.old) answer.old }
 {
     if !answer::is_answer(answer) {
         return 10;
@@ -54,8 +54,8 @@ pub fn sheet_variation(sheet: &[u8], latitude: i32, column: u32, answer: &mut [u
 
 // The change from an old value to a new one.
 pub fn change(old: i32, new: i32, answer: &mut [u8]) -> u32
-    ensures code { result ≡ code_in (changeValues old new answer.old) }
-    ensures answer { answer.new ≡ answered (changeValues old new answer.old) answer.old }
+    ensures code { result ≡ code_in (change_values old new answer.old) }
+    ensures answer { answer.new ≡ answered (change_values old new answer.old) answer.old }
 {
     if !answer::is_answer(answer) {
         return 10;

@@ -6,21 +6,21 @@ use mathlib.Core.List.{List, []}
 use native.Mathlib.Omega.{arith}
 use lib.IntN.{ℤ}
 use Rattle.base_types.specs.Outcome.{accepted, refused}
-use Rattle.plug_lookup.specs.Header.{covers, rowFrom}
+use Rattle.plug_lookup.specs.Header.{covers, row_from}
 
 -- one step of a loop over the rows below n
 module _ (header : List ℕ) (latitude : ℤ) (n i : ℕ) where
   ahead : i < n → n - i ≡ suc (n - (i + 1))
   ahead lt = omega arith
 
-  pub row-found : i < n → covers header latitude i ≡ true → rowFrom header latitude (n - i) i ≡ accepted i
-  unfolding rowFrom
-  row-found lt e = ap (λ k. rowFrom header latitude k i) (ahead lt) ∙ simp e
+  pub row-found : i < n → covers header latitude i ≡ true → row_from header latitude (n - i) i ≡ accepted i
+  unfolding row_from
+  row-found lt e = ap (λ k. row_from header latitude k i) (ahead lt) ∙ simp e
 
-  pub row-goes-on : i < n → covers header latitude i ≡ false → rowFrom header latitude (n - i) i ≡ rowFrom header latitude (n - (i + 1)) (i + 1)
-  unfolding rowFrom
-  row-goes-on lt e = ap (λ k. rowFrom header latitude k i) (ahead lt) ∙ simp e
+  pub row-goes-on : i < n → covers header latitude i ≡ false → row_from header latitude (n - i) i ≡ row_from header latitude (n - (i + 1)) (i + 1)
+  unfolding row_from
+  row-goes-on lt e = ap (λ k. row_from header latitude k i) (ahead lt) ∙ simp e
 
-  pub row-over : n ≤ i → rowFrom header latitude (n - i) i ≡ refused 17 []
-  unfolding rowFrom
-  row-over le = let e : n - i ≡ 0 = omega arith in ap (λ k. rowFrom header latitude k i) e
+  pub row-over : n ≤ i → row_from header latitude (n - i) i ≡ refused 17 []
+  unfolding row_from
+  row-over le = let e : n - i ≡ 0 = omega arith in ap (λ k. row_from header latitude k i) e

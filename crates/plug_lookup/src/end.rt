@@ -1,6 +1,6 @@
 // The page at the end of a chain.
 ghost use Rattle.std.specs.Prelude.{◌≡◌};
-ghost use Rattle.plug_lookup.specs.Lookup.{finalOutcome, endOutcome, end_of};
+ghost use Rattle.plug_lookup.specs.Lookup.{final_outcome, end_outcome, end_of};
 
 use base_types::address::Page;
 use base_types::refusal::Refusal;
@@ -14,7 +14,7 @@ pub enum End {
 }
 
 fn ended(verdict: Verdict) -> End
-    ensures { endOutcome result ≡ finalOutcome verdict }
+    ensures { end_outcome result ≡ final_outcome verdict }
 {
     match verdict {
         Verdict::Final(q, _) => End::At(q),
@@ -25,7 +25,7 @@ fn ended(verdict: Verdict) -> End
 
 // Where the chain of a page ends. Refused: 1, 3, 4, 5.
 pub fn of(image: &[u8], page: Page) -> End
-    ensures { endOutcome result ≡ end_of 64 image.now page.0 }
+    ensures { end_outcome result ≡ end_of 64 image.now page.0 }
 {
     match chip_images::walk::walk(image, page) {
         Walked::Refused(r) => End::Refused(r),

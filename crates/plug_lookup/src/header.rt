@@ -1,7 +1,7 @@
 // The header, which says which page holds the row of a latitude. Each function takes any bytes; past their end they read 0.
 ghost use Rattle.std.specs.Prelude.{◌≡◌, get_or};
-ghost use Rattle.plug_lookup.specs.Header.{wordAt, rows_of, columnsOf, edge_of, heightOf, rowPage, isBetween, fieldsRight, pagesRight, restBlank, isHeader};
-ghost use Rattle.plug_lookup.specs.Header.{lowerEdge, covers, rowFrom, rowOutcome, rowAnswer};
+ghost use Rattle.plug_lookup.specs.Header.{word_at, rows_of, columns_of, edge_of, height_of, row_page, is_between, fields_right, pages_right, rest_blank, is_header};
+ghost use Rattle.plug_lookup.specs.Header.{lower_edge, covers, row_from, row_outcome, row_answer};
 
 use base_types::address::Page;
 use base_types::refusal::Refusal;
@@ -22,7 +22,7 @@ fn byte_at(page: &[u8], i: usize) -> u8
 
 // The 16-bit number k of a page.
 pub fn word_at(page: &[u8], k: u32) -> u16
-    ensures { result ≡ wordAt page.now k }
+    ensures { result ≡ word_at page.now k }
 {
     let i = 2 * k as usize;
     base_tenths::word_of(byte_at(page, i), byte_at(page, i + 1))
@@ -37,7 +37,7 @@ pub fn rows(header: &[u8]) -> u16
 }
 
 pub fn columns(header: &[u8]) -> u16
-    ensures { result ≡ columnsOf header.now }
+    ensures { result ≡ columns_of header.now }
 {
     word_at(header, 1)
 }
@@ -49,13 +49,13 @@ pub fn edge(header: &[u8]) -> i32
 }
 
 pub fn height(header: &[u8]) -> u16
-    ensures { result ≡ heightOf header.now }
+    ensures { result ≡ height_of header.now }
 {
     word_at(header, 3)
 }
 
 pub fn row_page(header: &[u8], i: u16) -> Page
-    ensures { result.0 ≡ rowPage header.now i }
+    ensures { result.0 ≡ row_page header.now i }
 {
     Page(byte_at(header, 10 + i as usize))
 }
@@ -63,7 +63,7 @@ pub fn row_page(header: &[u8], i: u16) -> Page
 // ---- what a header is
 
 fn is_between(low: u16, high: u16, x: u16) -> bool
-    ensures { result ≡ isBetween low high x }
+    ensures { result ≡ is_between low high x }
 {
     if x < low {
         return false;
@@ -72,7 +72,7 @@ fn is_between(low: u16, high: u16, x: u16) -> bool
 }
 
 fn are_fields_right(header: &[u8]) -> bool
-    ensures { result ≡ fieldsRight header.now }
+    ensures { result ≡ fields_right header.now }
 {
     if !is_between(1, 15, rows(header)) {
         return false;
@@ -87,7 +87,7 @@ fn are_fields_right(header: &[u8]) -> bool
 }
 
 fn are_pages_right(header: &[u8], pages: u16) -> bool
-    ensures { result ≡ pagesRight pages header.now }
+    ensures { result ≡ pages_right pages header.now }
 {
     for i in 0..rows(header) {
         if row_page(header, i).0 as u16 >= pages {
@@ -98,7 +98,7 @@ fn are_pages_right(header: &[u8], pages: u16) -> bool
 }
 
 fn is_rest_blank(header: &[u8]) -> bool
-    ensures { result ≡ restBlank header.now }
+    ensures { result ≡ rest_blank header.now }
 {
     for k in 10 + rows(header) as usize..32 {
         if byte_at(header, k) != 0xFF {
@@ -110,7 +110,7 @@ fn is_rest_blank(header: &[u8]) -> bool
 
 // The bytes are a header for a chip with so many pages.
 pub fn is_header(header: &[u8], pages: u16) -> bool
-    ensures { result ≡ isHeader pages header.now }
+    ensures { result ≡ is_header pages header.now }
 {
     if !are_fields_right(header) {
         return false;
@@ -125,7 +125,7 @@ pub fn is_header(header: &[u8], pages: u16) -> bool
 
 // The lower edge of row i. Sixty-four bits hold it whatever the bytes are.
 fn lower_edge(header: &[u8], i: u32) -> i64
-    ensures { result ≡ lowerEdge header.now i }
+    ensures { result ≡ lower_edge header.now i }
 {
     let above = i as u64 * height(header) as u64;
     edge(header) as i64 + above as i64
@@ -141,7 +141,7 @@ fn does_cover(header: &[u8], latitude: i32, i: u16) -> bool
 }
 
 fn find_row(header: &[u8], latitude: i32) -> Row
-    ensures { rowOutcome result ≡ rowFrom header.now latitude (rows_of header.now) 0 }
+    ensures { row_outcome result ≡ row_from header.now latitude (rows_of header.now) 0 }
 {
     for i in 0..rows(header) {
         if does_cover(header, latitude, i) {
@@ -153,7 +153,7 @@ fn find_row(header: &[u8], latitude: i32) -> Row
 
 // The row of a latitude. Refused: 16, 17.
 pub fn row_of(header: &[u8], pages: u16, latitude: i32) -> Row
-    ensures { rowOutcome result ≡ rowAnswer pages header.now latitude }
+    ensures { row_outcome result ≡ row_answer pages header.now latitude }
 {
     if !is_header(header, pages) {
         return Row::Refused(Refusal::Header);

@@ -1,7 +1,7 @@
 // The variation at a latitude and a column.
 ghost use Rattle.std.specs.Prelude.{◌≡◌};
-ghost use Rattle.base_tenths.specs.Tenths.{tenthsOutcome};
-ghost use Rattle.plug_lookup.specs.Lookup.{columnValue, pageValue, rowValue, headerValue, lookupAnswer};
+ghost use Rattle.base_tenths.specs.Tenths.{tenths_outcome};
+ghost use Rattle.plug_lookup.specs.Lookup.{column_value, page_value, row_value, header_value, lookup_answer};
 
 use crate::end::End;
 use crate::header::Row;
@@ -15,7 +15,7 @@ const PAGES: u16 = 64;
 
 // The value of a column on a row page.
 fn in_column(page: &[u8], column: u32) -> Tenths
-    ensures { tenthsOutcome result ≡ columnValue column page.now }
+    ensures { tenths_outcome result ≡ column_value column page.now }
 {
     let value = base_tenths::signed_of(header::word_at(page, column));
     if !base_tenths::is_value(value) {
@@ -25,7 +25,7 @@ fn in_column(page: &[u8], column: u32) -> Tenths
 }
 
 fn in_page(image: &[u8], column: u32, page: Page) -> Tenths
-    ensures { tenthsOutcome result ≡ pageValue 64 image.now column page.0 }
+    ensures { tenths_outcome result ≡ page_value 64 image.now column page.0 }
 {
     match end::of(image, page) {
         End::Refused(r) => Tenths::Refused(r),
@@ -34,7 +34,7 @@ fn in_page(image: &[u8], column: u32, page: Page) -> Tenths
 }
 
 fn in_row(image: &[u8], header: &[u8], column: u32, i: u16) -> Tenths
-    ensures { tenthsOutcome result ≡ rowValue 64 image.now header.now column i }
+    ensures { tenths_outcome result ≡ row_value 64 image.now header.now column i }
 {
     if column >= header::columns(header) as u32 {
         return Tenths::Refused(Refusal::Column);
@@ -43,7 +43,7 @@ fn in_row(image: &[u8], header: &[u8], column: u32, i: u16) -> Tenths
 }
 
 fn in_header(image: &[u8], latitude: i32, column: u32, header: &[u8]) -> Tenths
-    ensures { tenthsOutcome result ≡ headerValue 64 image.now latitude column header.now }
+    ensures { tenths_outcome result ≡ header_value 64 image.now latitude column header.now }
 {
     match header::row_of(header, PAGES, latitude) {
         Row::Refused(r) => Tenths::Refused(r),
@@ -54,7 +54,7 @@ fn in_header(image: &[u8], latitude: i32, column: u32, header: &[u8]) -> Tenths
 // The value in tenths of a degree. Rows and columns count from 0; the latitude is in tenths. Refused: 1, page 1's own 4 or 5, 16, 17, 18,
 // the row page's own 4 or 5, 19.
 pub fn at(image: &[u8], latitude: i32, column: u32) -> Tenths
-    ensures { tenthsOutcome result ≡ lookupAnswer 64 image.now latitude column }
+    ensures { tenths_outcome result ≡ lookup_answer 64 image.now latitude column }
 {
     match end::of(image, Page(1)) {
         End::Refused(r) => Tenths::Refused(r),

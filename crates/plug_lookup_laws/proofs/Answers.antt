@@ -9,38 +9,38 @@ use lib.Dec.{ltb, leb, eqb}
 use lib.IntN.{ℤ}
 use lib.ListN.{length, get_or}
 use borrow.Author.Tests.{eqb-true, leb-true, eq-eqb, lt-ltb}
-use Rattle.base_types.specs.Outcome.{Outcome, refused, accepted, judge, unlessRefused}
+use Rattle.base_types.specs.Outcome.{Outcome, refused, accepted, judge, unless_refused}
 use Rattle.base_types.specs.declared.address.Page.{Page}
 use Rattle.base_types.specs.declared.verdict.Verdict.{Verdict}
 use Rattle.base_types.specs.declared.verdict.Verdict.TheVariants.{Final, Loop, Outside}
 use Rattle.bus_events.specs.declared.Event.{Event}
-use Rattle.chip_memory.specs.Layout.{imageSize, isImage, isPage}
-use Rattle.chip_memory.specs.Image.{redirectionOf, pageBytes}
-use Rattle.chip_memory.specs.Page.{isBlank}
+use Rattle.chip_memory.specs.Layout.{image_size, is_image, is_page}
+use Rattle.chip_memory.specs.Image.{redirection_of, page_bytes}
+use Rattle.chip_memory.specs.Page.{is_blank}
 use Rattle.chip_memory.proofs.Sizes.{page-below}
 use Rattle.chip_chain.specs.Walk.{walk_of}
 use Rattle.base_types.proofs.Scan.{both_true}
 use Rattle.chip_chain.proofs.Walks.{final-means}
-use Rattle.chip_chain_laws.specs.Update.{PageReading, bytesUnder, read_of}
+use Rattle.chip_chain_laws.specs.Update.{PageReading, bytes_under, read_of}
 use Rattle.chip_chain_laws.proofs.Relink.{final-below}
-use Rattle.chip_entries.specs.Event.{eventImage}
-use Rattle.chip_images.specs.Page.{pageAnswer, pagePart}
-use Rattle.chip_images.specs.Walk.{walkAnswer}
+use Rattle.chip_entries.specs.Event.{event_image}
+use Rattle.chip_images.specs.Page.{page_answer, page_part}
+use Rattle.chip_images.specs.Walk.{walk_answer}
 use Rattle.chip_entries.specs.Run.{Chip, next, draws, run}
 use Rattle.chip_entries.proofs.Kept.{image-length}
 use Rattle.base_tenths.specs.Tenths.{word_of}
-use Rattle.plug_lookup.specs.Header.{wordAt, rows_of, columnsOf, rowPage, isBetween, fieldsRight, isHeader, rowFrom, rowAnswer}
-use Rattle.plug_lookup.specs.Lookup.{and_then, finalOutcome, end_of, columnValue, pageValue, rowValue, headerValue, lookupAnswer}
+use Rattle.plug_lookup.specs.Header.{word_at, rows_of, columns_of, row_page, is_between, fields_right, is_header, row_from, row_answer}
+use Rattle.plug_lookup.specs.Lookup.{and_then, final_outcome, end_of, column_value, page_value, row_value, header_value, lookup_answer}
 use Rattle.plug_lookup_laws.proofs.Outcome.{good-means, row-sound}
 
 -- ---- events leave an image as long as it is
 
-either-length : (t : Outcome Bool) (new old : List ℕ) → length new ≡ length old → length (unlessRefused t new old) ≡ length old
+either-length : (t : Outcome Bool) (new old : List ℕ) → length new ≡ length old → length (unless_refused t new old) ≡ length old
 either-length (accepted r) new old e = e
 either-length (refused k vs) new old e = refl
 
 pub run_length : (n : ℕ) (es : List Event) (c : Chip) → length (run n c es).image ≡ length c.image
-unfolding run eventImage
+unfolding run event_image
 run_length n [] c = refl
 run_length n (e ∷ es) c = run_length n es (next n c e) ∙ either-length (draws n c e) _ _ (image-length n c.state.stage e c.image)
 
@@ -51,70 +51,70 @@ passed : {A : Type 0} (b : Bool) (k : ℕ) (rest : Outcome A) (a : A) → judge 
 passed true k rest a e = refl
 passed false k rest a e = absurd (let z : ◌≡◌ {A = ℕ} 0 1 = cc in omega arith)
 
-first-blank : (bs : List ℕ) → isBlank bs ≡ true → 0 < length bs → get_or bs 0 0 ≡ 255
-unfolding isBlank
+first-blank : (bs : List ℕ) → is_blank bs ≡ true → 0 < length bs → get_or bs 0 0 ≡ 255
+unfolding is_blank
 first-blank [] e lt = absurd (not-suc-le-zero lt)
-first-blank (b ∷ bs) e lt = eqb-true b 255 (both_true (eqb b 255) (isBlank bs) e).0
+first-blank (b ∷ bs) e lt = eqb-true b 255 (both_true (eqb b 255) (is_blank bs) e).0
 
-module _ (n : ℕ) (header : List ℕ) (latitude : ℤ) (i : ℕ) (row : rowAnswer n header latitude ≡ accepted i) where
-  sound : isHeader n header ≡ true
-  unfolding rowAnswer
-  sound = passed (isHeader n header) 16 (rowFrom header latitude (rows_of header) 0) i row
+module _ (n : ℕ) (header : List ℕ) (latitude : ℤ) (i : ℕ) (row : row_answer n header latitude ≡ accepted i) where
+  sound : is_header n header ≡ true
+  unfolding row_answer
+  sound = passed (is_header n header) 16 (row_from header latitude (rows_of header) 0) i row
 
-  pub row-on-chip : rowPage header i < n
-  row-on-chip = page-below n (rowPage header i) (good-means (rw row at (row-sound n header latitude)))
+  pub row-on-chip : row_page header i < n
+  row-on-chip = page-below n (row_page header i) (good-means (rw row at (row-sound n header latitude)))
 
   few-rows : rows_of header ≤ 15
-  unfolding isHeader fieldsRight isBetween
+  unfolding is_header fields_right is_between
   few-rows =
-      let rows = (both_true (isBetween 1 15 (rows_of header)) _ (both_true (fieldsRight header) _ sound).0).0 in
+      let rows = (both_true (is_between 1 15 (rows_of header)) _ (both_true (fields_right header) _ sound).0).0 in
       leb-true (rows_of header) 15 (both_true (leb 1 (rows_of header)) _ rows).1
 
   -- a blank page is no header: by its first byte it has 255 rows at least
-  pub not-blank : isBlank header ≡ true → 0 < length header → ⊥
-  unfolding rows_of wordAt word_of
+  pub not-blank : is_blank header ≡ true → 0 < length header → ⊥
+  unfolding rows_of word_at word_of
   not-blank blank some = omega (arith, few-rows, first-blank header blank some)
 
 -- ---- the answers
 
 -- what follows from the bytes of a page that is reached through its chain, by what the page reads as
-abbrev pub onReading : {A : Type 0} → (List ℕ → Outcome A) → PageReading → Outcome A
-onReading rest r = and_then (finalOutcome r.verdict) (λ (q : Page). rest r.bytes)
+abbrev pub on_reading : {A : Type 0} → (List ℕ → Outcome A) → PageReading → Outcome A
+on_reading rest r = and_then (final_outcome r.verdict) (λ (q : Page). rest r.bytes)
 
-module _ (n : ℕ) (img : List ℕ) (sized : length img ≡ imageSize n) where
-  part-is : (q : ℕ) → q < n → pagePart n img q ≡ pageBytes img q
-  unfolding pagePart pageAnswer isImage isPage
-  part-is q lt = simp (eq-eqb (length img) (imageSize n) sized, lt-ltb q n lt)
+module _ (n : ℕ) (img : List ℕ) (sized : length img ≡ image_size n) where
+  part-is : (q : ℕ) → q < n → page_part n img q ≡ page_bytes img q
+  unfolding page_part page_answer is_image is_page
+  part-is q lt = simp (eq-eqb (length img) (image_size n) sized, lt-ltb q n lt)
 
-  end_is : (p : ℕ) → p < n → end_of n img p ≡ finalOutcome (walk_of n img p)
-  unfolding end_of walkAnswer isImage isPage
-  end_is p lt = simp (eq-eqb (length img) (imageSize n) sized, lt-ltb p n lt)
+  end_is : (p : ℕ) → p < n → end_of n img p ≡ final_outcome (walk_of n img p)
+  unfolding end_of walk_answer is_image is_page
+  end_is p lt = simp (eq-eqb (length img) (image_size n) sized, lt-ltb p n lt)
 
   end_below : (p : ℕ) (f : Page) (hops : ℕ) → p < n → walk_of n img p ≡ Final f hops → f.0 < n
   unfolding walk_of
-  end_below p f hops lt w = final-below n (redirectionOf n img) p f.0 hops lt ((final-means (redirectionOf n img) n p f.0 hops lt).0 w)
+  end_below p f hops lt w = final-below n (redirection_of n img) p f.0 hops lt ((final-means (redirection_of n img) n p f.0 hops lt).0 w)
 
   on-page : {A : Type 0} (rest : List ℕ → Outcome A) (p : ℕ) → p < n
-      → and_then (end_of n img p) (λ (q : Page). rest (pagePart n img q.0)) ≡ onReading rest (read_of n img p)
+      → and_then (end_of n img p) (λ (q : Page). rest (page_part n img q.0)) ≡ on_reading rest (read_of n img p)
   on-page rest p lt = rw (end_is p lt) (go (walk_of n img p) refl)
     where
       go : (v : Verdict) → walk_of n img p ≡ v
-          → and_then (finalOutcome v) (λ (q : Page). rest (pagePart n img q.0)) ≡ and_then (finalOutcome v) (λ (q : Page). rest (bytesUnder img v))
+          → and_then (final_outcome v) (λ (q : Page). rest (page_part n img q.0)) ≡ and_then (final_outcome v) (λ (q : Page). rest (bytes_under img v))
       go (Final f hops) w = ap rest (part-is f.0 (end_below p f hops lt w))
       go Loop w = refl
       go (Outside x) w = refl
 
   module _ (some : 1 < n) (latitude : ℤ) (column : ℕ) (header : List ℕ) (f : Page) (hops : ℕ)
       (first : read_of n img 1 ≡ record { verdict = Final f hops; bytes = header }) where
-    pub by-header : lookupAnswer n img latitude column ≡ headerValue n img latitude column header
-    unfolding lookupAnswer
-    by-header = on-page (headerValue n img latitude column) 1 some ∙ ap (onReading (headerValue n img latitude column)) first
+    pub by-header : lookup_answer n img latitude column ≡ header_value n img latitude column header
+    unfolding lookup_answer
+    by-header = on-page (header_value n img latitude column) 1 some ∙ ap (on_reading (header_value n img latitude column)) first
 
-    pub by_row : (i : ℕ) → rowAnswer n header latitude ≡ accepted i → (r : PageReading) → read_of n img (rowPage header i) ≡ r
-        → lookupAnswer n img latitude column ≡ judge (ltb column (columnsOf header)) 18 (onReading (columnValue column) r)
-    unfolding headerValue rowValue pageValue
+    pub by_row : (i : ℕ) → row_answer n header latitude ≡ accepted i → (r : PageReading) → read_of n img (row_page header i) ≡ r
+        → lookup_answer n img latitude column ≡ judge (ltb column (columns_of header)) 18 (on_reading (column_value column) r)
+    unfolding header_value row_value page_value
     by_row i row r second =
         by-header
-        ∙ ap (λ a. and_then a (rowValue n img header column)) row
-        ∙ ap (judge (ltb column (columnsOf header)) 18)
-        (on-page (columnValue column) (rowPage header i) (row-on-chip n header latitude i row) ∙ ap (onReading (columnValue column)) second)
+        ∙ ap (λ a. and_then a (row_value n img header column)) row
+        ∙ ap (judge (ltb column (columns_of header)) 18)
+        (on-page (column_value column) (row_page header i) (row-on-chip n header latitude i row) ∙ ap (on_reading (column_value column)) second)

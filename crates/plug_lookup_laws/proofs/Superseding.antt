@@ -14,48 +14,48 @@ use Rattle.base_types.specs.Outcome.{accepted, judge}
 use Rattle.base_types.specs.declared.address.Page.{Page}
 use Rattle.base_types.specs.declared.verdict.Verdict.{Verdict}
 use Rattle.base_types.specs.declared.verdict.Verdict.TheVariants.{Final, Loop, Outside}
-use Rattle.chip_memory.specs.Layout.{imageSize}
-use Rattle.chip_memory.specs.Image.{redirectionOf, pageBytes}
+use Rattle.chip_memory.specs.Layout.{image_size}
+use Rattle.chip_memory.specs.Image.{redirection_of, page_bytes}
 use Rattle.chip_memory.proofs.Pages.{page-length}
 use Rattle.base_types.specs.Verdict.{final}
 use Rattle.chip_chain.specs.Walk.{walk_of}
 use Rattle.chip_chain.proofs.Walks.{walk-final}
-use Rattle.chip_chain_laws.specs.Update.{PageReading, bytesUnder, read_of, movedBy}
+use Rattle.chip_chain_laws.specs.Update.{PageReading, bytes_under, read_of, moved_by}
 use Rattle.master_publisher.specs.declared.Choice.{Choice}
 use Rattle.master_publisher.specs.declared.Choice.TheVariants.{Refused, Accepted}
 use Rattle.master_publisher.specs.declared.Publisher.{Publisher}
-use Rattle.master_publisher.specs.Start.{choice_of, choiceOutcome, choiceState, ready, publisherAnswer, publisherState}
+use Rattle.master_publisher.specs.Start.{choice_of, choice_outcome, choice_state, ready, publisher_answer, publisher_state}
 use Rattle.chip_entries.specs.Run.{Chip}
 use Rattle.chip_session_laws.specs.Session.{Ready, Bytes}
 use Rattle.master_plan.specs.declared.kind.UpdateKind.{UpdateKind}
-use Rattle.master_plan.specs.Kind.{shownOf}
+use Rattle.master_plan.specs.Kind.{shown_of}
 use Rattle.master_plan_laws.proofs.Starts.{Placed, placed-means, chosen-means}
 use Rattle.master_publisher_laws.specs.Demand.{returned, reaching, Update, Demand3}
 use Rattle.master_publisher_laws.proofs.Demand.{demand-3-ds2505}
-use Rattle.plug_lookup.specs.Header.{columnsOf, rowPage}
-use Rattle.plug_lookup.specs.Lookup.{columnValue, lookupAnswer}
-use Rattle.plug_lookup_laws.specs.Superseding.{imageReached, header_at, Covered, valueOn, Lookups, Superseding}
-use Rattle.plug_lookup_laws.proofs.Answers.{run_length, row-on-chip, not-blank, onReading, by-header, by_row}
+use Rattle.plug_lookup.specs.Header.{columns_of, row_page}
+use Rattle.plug_lookup.specs.Lookup.{column_value, lookup_answer}
+use Rattle.plug_lookup_laws.specs.Superseding.{image_reached, header_at, Covered, value_on, Lookups, Superseding}
+use Rattle.plug_lookup_laws.proofs.Answers.{run_length, row-on-chip, not-blank, on_reading, by-header, by_row}
 
 -- the start found t: it is free, and is not l
-found : (n : ℕ) (kind : UpdateKind) (img new : List ℕ) (p : ℕ) → publisherAnswer n kind img new p ≡ accepted []
-    → Placed n img (publisherState n kind img new p).superseded.0 (publisherState n kind img new p).target.0
-unfolding choiceState ready
+found : (n : ℕ) (kind : UpdateKind) (img new : List ℕ) (p : ℕ) → publisher_answer n kind img new p ≡ accepted []
+    → Placed n img (publisher_state n kind img new p).superseded.0 (publisher_state n kind img new p).target.0
+unfolding choice_state ready
 found n kind img new p a = go (choice_of n kind.placement img new p) refl a
   where
-    go : (ch : Choice) → choice_of n kind.placement img new p ≡ ch → choiceOutcome ch ≡ accepted []
-        → Placed n img (choiceState n kind img new ch).superseded.0 (choiceState n kind img new ch).target.0
+    go : (ch : Choice) → choice_of n kind.placement img new p ≡ ch → choice_outcome ch ≡ accepted []
+        → Placed n img (choice_state n kind img new ch).superseded.0 (choice_state n kind img new ch).target.0
     go (Accepted l t) e a = placed-means kind.placement n img l.0 t.0 (chosen-means l t n kind img new p e).found
     go (Refused r) e a = absurd (let z : ◌≡◌ {A = ℕ} 0 1 = cc in omega arith)
 
 -- ---- what a page reads as
 
 read-final : (n : ℕ) (img : List ℕ) (p : ℕ) (f : Page) (hops : ℕ) → walk_of n img p ≡ Final f hops
-    → read_of n img p ≡ record { verdict = Final f hops; bytes = pageBytes img f.0 }
-read-final n img p f hops w = ap (λ (v : Verdict). record { verdict = v; bytes = bytesUnder img v }) w
+    → read_of n img p ≡ record { verdict = Final f hops; bytes = page_bytes img f.0 }
+read-final n img p f hops w = ap (λ (v : Verdict). record { verdict = v; bytes = bytes_under img v }) w
 
 -- a page that did not end at l reads as before
-moved_other : (l : Page) (t : ℕ) (new : List ℕ) (r : PageReading) (v : Verdict) → ((hops : ℕ) → v ≡ Final l hops → ⊥) → movedBy l.0 t new r v ≡ r
+moved_other : (l : Page) (t : ℕ) (new : List ℕ) (r : PageReading) (v : Verdict) → ((hops : ℕ) → v ≡ Final l hops → ⊥) → moved_by l.0 t new r v ≡ r
 moved_other l t new r (Final f hops) d = simp (ne_eqb f.0 l.0 (λ e. d hops (ap (λ x. final x hops) e)))
 moved_other l t new r Loop d = refl
 moved_other l t new r (Outside x) d = refl
@@ -71,7 +71,7 @@ module _ {n : ℕ} {kind : UpdateKind} {c : Chip} {new : List ℕ} {p : ℕ} {s 
   unfolding walk_of
   ends-itself q f hops w z =
       let t : walk_of n c.image s.target.0 ≡ final s.target.0 0 =
-      walk-final (redirectionOf n c.image) n placed.on-chip
+      walk-final (redirection_of n c.image) n placed.on-chip
       (record { there = refl; valid = placed.free.valid; before = λ k lt. absurd (not-suc-le-zero lt) }) in
       let same : f ≡ s.target = cc in
       ap (λ (x : Page). x.0) same
@@ -83,33 +83,33 @@ module _ {n : ℕ} {kind : UpdateKind} {c : Chip} {new : List ℕ} {p : ℕ} {s 
   -- ---- the image left, and what demand 3 says of it
 
   abbrev left : ℕ → Bool → List ℕ
-  left m cut = imageReached n c (returned n s replies) m cut
+  left m cut = image_reached n c (returned n s replies) m cut
 
-  left-sized : (m : ℕ) (cut : Bool) → length (left m cut) ≡ imageSize n
+  left-sized : (m : ℕ) (cut : Bool) → length (left m cut) ≡ image_size n
   left-sized m cut = run_length n (reaching (returned n s replies) m cut) c ∙ ok.sized
 
   module _ (m : ℕ) (cut : Bool) (le : m ≤ length (returned n s replies)) where
-    reads_old : m < shownOf kind → (q : ℕ) → q < n → (q ≡ s.target.0 → ⊥) → read_of n (left m cut) q ≡ read_of n c.image q
-    reads_old early q lt d = update.reads m cut le q lt d ∙ simp (lt-ltb m (shownOf kind) early)
+    reads_old : m < shown_of kind → (q : ℕ) → q < n → (q ≡ s.target.0 → ⊥) → read_of n (left m cut) q ≡ read_of n c.image q
+    reads_old early q lt d = update.reads m cut le q lt d ∙ simp (lt-ltb m (shown_of kind) early)
 
     reads_other : (q : ℕ) → q < n → (q ≡ s.target.0 → ⊥) → ((hops : ℕ) → walk_of n c.image q ≡ Final s.superseded hops → ⊥)
         → read_of n (left m cut) q ≡ read_of n c.image q
     reads_other q lt d other =
         update.reads m cut le q lt d
-        ∙ either_same (ltb m (shownOf kind)) _ _ (moved_other s.superseded s.target.0 new (read_of n c.image q) (walk_of n c.image q) other)
+        ∙ either_same (ltb m (shown_of kind)) _ _ (moved_other s.superseded s.target.0 new (read_of n c.image q) (walk_of n c.image q) other)
 
-    reads-new : shownOf kind ≤ m → (q hops : ℕ) → q < n → walk_of n c.image q ≡ Final s.superseded hops
+    reads-new : shown_of kind ≤ m → (q hops : ℕ) → q < n → walk_of n c.image q ≡ Final s.superseded hops
         → read_of n (left m cut) q ≡ record { verdict = final s.target.0 (hops + 1); bytes = new }
     reads-new late q hops lt w =
         update.reads m cut le q lt (superseded-apart q hops w)
-        ∙ simp (le-ltb m (shownOf kind) late)
-        (ap (λ v. movedBy s.superseded.0 s.target.0 new (read_of n c.image q) v) w ∙ simp (eq-eqb s.superseded.0 s.superseded.0 refl))
+        ∙ simp (le-ltb m (shown_of kind) late)
+        (ap (λ v. moved_by s.superseded.0 s.target.0 new (read_of n c.image q) v) w ∙ simp (eq-eqb s.superseded.0 s.superseded.0 refl))
 
   -- ---- a latitude that row i of the header covers
 
   module _ {latitude : ℤ} {f : Page} {i : ℕ} (v : Covered n c.image latitude f i) where
     abbrev page : ℕ
-    page = rowPage (header_at c.image f) i
+    page = row_page (header_at c.image f) i
 
     page-below : page < n
     page-below = row-on-chip n (header_at c.image f) latitude i v.row
@@ -126,13 +126,13 @@ module _ {n : ℕ} {kind : UpdateKind} {c : Chip} {new : List ℕ} {p : ℕ} {s 
         reads_other m cut le 1 some first-apart (λ hops w. let e : f ≡ s.superseded = cc v.ends in d (ap (λ (x : Page). x.0) e))
 
     -- on an image on which page 1 reads as at the start, the lookup is as the row's page reads
-    by-page : (column : ℕ) (img : List ℕ) → length img ≡ imageSize n → read_of n img 1 ≡ read_of n c.image 1 → (r : PageReading) → read_of n img page ≡ r
-        → lookupAnswer n img latitude column ≡ judge (ltb column (columnsOf (header_at c.image f))) 18 (onReading (columnValue column) r)
+    by-page : (column : ℕ) (img : List ℕ) → length img ≡ image_size n → read_of n img 1 ≡ read_of n c.image 1 → (r : PageReading) → read_of n img page ≡ r
+        → lookup_answer n img latitude column ≡ judge (ltb column (columns_of (header_at c.image f))) 18 (on_reading (column_value column) r)
     by-page column img sized first =
         by_row n img sized some latitude column (header_at c.image f) f v.hops (first ∙ read-final n c.image 1 f v.hops v.ends) i v.row
 
     same : (column m : ℕ) (cut : Bool) → read_of n (left m cut) 1 ≡ read_of n c.image 1 → read_of n (left m cut) page ≡ read_of n c.image page
-        → lookupAnswer n (left m cut) latitude column ≡ lookupAnswer n c.image latitude column
+        → lookup_answer n (left m cut) latitude column ≡ lookup_answer n c.image latitude column
     same column m cut first second =
         by-page column (left m cut) (left-sized m cut) first (read_of n c.image page) second
         ∙ sym (by-page column c.image ok.sized refl (read_of n c.image page) refl)
@@ -156,14 +156,14 @@ module _ {n : ℕ} {kind : UpdateKind} {c : Chip} {new : List ℕ} {p : ℕ} {s 
   asked q e = rw e update.asked
 
   row : (latitude : ℤ) (column : ℕ) (f : Page) (i : ℕ) (v : Covered n c.image latitude f i) → page v ≡ p → (f.0 ≡ s.superseded.0 → ⊥)
-      → (m : ℕ) (cut : Bool) → m ≤ length (returned n s replies) → Dec (m < shownOf kind)
-      → lookupAnswer n (left m cut) latitude column ≡ valueOn (header_at c.image f) column (cond (ltb m (shownOf kind)) (pageBytes c.image s.superseded.0) new)
+      → (m : ℕ) (cut : Bool) → m ≤ length (returned n s replies) → Dec (m < shown_of kind)
+      → lookup_answer n (left m cut) latitude column ≡ value_on (header_at c.image f) column (cond (ltb m (shown_of kind)) (page_bytes c.image s.superseded.0) new)
   row latitude column f i v e d m cut le (yes early) =
-      simp (lt-ltb m (shownOf kind) early)
+      simp (lt-ltb m (shown_of kind) early)
       (lookups.before latitude column f i v (superseded-apart (page v) update.hops (asked (page v) e)) m cut le early
       ∙ by-page v column c.image ok.sized refl _ (read-final n c.image (page v) s.superseded update.hops (asked (page v) e)))
   row latitude column f i v e d m cut le (no late) =
-      simp (le-ltb m (shownOf kind) (omega arith)) (lookups.changed latitude column f i v d update.hops (asked (page v) e) m cut le (omega arith))
+      simp (le-ltb m (shown_of kind) (omega arith)) (lookups.changed latitude column f i v d update.hops (asked (page v) e) m cut le (omega arith))
 
 pub superseding : (n : ℕ) → 1 < n → (kind : UpdateKind) (c : Chip) (new : List ℕ) (p : ℕ) (replies : List Bool)
     → Ready n c → Demand3 n kind c new p replies → Superseding n kind c new p replies
@@ -171,7 +171,7 @@ superseding n some kind c new p replies ok demand =
     record {
       lookups = λ a. lookups some ok (demand.update a) (found n kind c.image new p a);
       row = λ a latitude column f i v e d m cut le.
-          row some ok (demand.update a) (found n kind c.image new p a) latitude column f i v e d m cut le (dec_lt m (shownOf kind));
+          row some ok (demand.update a) (found n kind c.image new p a) latitude column f i v e d m cut le (dec_lt m (shown_of kind));
     }
 
 -- at the DS2505's 64 pages

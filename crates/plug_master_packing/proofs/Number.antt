@@ -13,12 +13,12 @@ use Rattle.master_number.specs.declared.Phase.TheVariants.{Begin, Presence, Comm
 use Rattle.master_number.specs.declared.NumberStop.TheVariants.{NoPresence, Crc8, Family}
 use Rattle.master_number.specs.declared.NumberRead.{NumberRead}
 use Rattle.plug_fields.specs.Fields.{padded, same, rest_at, value_of}
-use Rattle.plug_master_packing.specs.Number.{phaseBytes, numberStopOf, phaseOf, number_at, numberNone, numberBytes, numberReadOf, isNumberState, NumberPacking}
-use Rattle.plug_master_packing.specs.Code.Number.{phaseOwn}
+use Rattle.plug_master_packing.specs.Number.{phase_bytes, number_stop_of, phase_of, number_at, number_none, number_bytes, number_read_of, is_number_state, NumberPacking}
+use Rattle.plug_master_packing.specs.Code.Number.{phase_own}
 use Rattle.plug_fields.proofs.Laws.{past, same_tag, same_not, Laws, laws}
 
-phase-back : (p : Phase) (fields rest : List ℕ) → phaseOf ((padded 8 (phaseBytes p) ++ fields) ++ rest) ≡ p
-unfolding phaseBytes phaseOf numberStopOf value_of
+phase-back : (p : Phase) (fields rest : List ℕ) → phase_of ((padded 8 (phase_bytes p) ++ fields) ++ rest) ≡ p
+unfolding phase_bytes phase_of number_stop_of value_of
 phase-back Begin fields rest = refl
 phase-back Presence fields rest = refl
 phase-back (Command i) fields rest = refl
@@ -31,8 +31,8 @@ phase-back (Stopped Family) fields rest = refl
 
 -- the phases that have a tag alone
 pub plain-own : (b : List ℕ) (t : ℕ) → get_or b 0 0 ≡ t → t ≢ 2 → t ≢ 3 → t ≢ 6
-    → same 0 (padded 8 (phaseBytes (phaseOf b))) b ≡ (ltb t 6 && same 1 (replicate 7 0) b)
-unfolding phaseBytes phaseOf
+    → same 0 (padded 8 (phase_bytes (phase_of b))) b ≡ (ltb t 6 && same 1 (replicate 7 0) b)
+unfolding phase_bytes phase_of
 plain-own b zero e x y z = rw (e, same_tag b 0 e)
 plain-own b (suc zero) e x y z = rw (e, same_tag b 0 e)
 plain-own b (suc (suc zero)) e x y z = absurd (x refl)
@@ -49,21 +49,21 @@ plain-own b (suc (suc (suc (suc (suc (suc (suc n))))))) e x y z =
 
 -- ---- states
 
-number : Laws 8 8 (λ s. phaseBytes s.phase) (λ s. []) (λ s. s.bytes) (λ b. number_at b (phaseOf b)) numberNone
-unfolding numberBytes
+number : Laws 8 8 (λ s. phase_bytes s.phase) (λ s. []) (λ s. s.bytes) (λ b. number_at b (phase_of b)) number_none
+unfolding number_bytes
 number = laws _ _ _ _ _ _ _ (omega arith) (λ b. refl) refl back
   where
-    back : (s : NumberRead) → rest_at 8 (numberBytes s) ≡ s.bytes → number_at (numberBytes s) (phaseOf (numberBytes s)) ≡ s
+    back : (s : NumberRead) → rest_at 8 (number_bytes s) ≡ s.bytes → number_at (number_bytes s) (phase_of (number_bytes s)) ≡ s
     back s rest = simp (phase-back s.phase (padded 8 []) s.bytes, rest)
 
-pub number-held : (b : List ℕ) → length b ≡ 24 → numberReadOf b ≡ number_at b (phaseOf b)
-unfolding numberReadOf
+pub number-held : (b : List ℕ) → length b ≡ 24 → number_read_of b ≡ number_at b (phase_of b)
+unfolding number_read_of
 number-held b e = number.held b e
 
-pub number-judged : (b : List ℕ) → length b ≡ 24 → isNumberState b ≡ (phaseOwn b && same 8 (replicate 8 0) b)
-unfolding isNumberState phaseOwn numberReadOf numberBytes
+pub number-judged : (b : List ℕ) → length b ≡ 24 → is_number_state b ≡ (phase_own b && same 8 (replicate 8 0) b)
+unfolding is_number_state phase_own number_read_of number_bytes
 number-judged b e = number.judged b e
 
 pub number-packing : NumberPacking
-unfolding numberBytes numberReadOf isNumberState
+unfolding number_bytes number_read_of is_number_state
 number-packing = number.inverse

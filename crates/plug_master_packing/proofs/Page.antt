@@ -14,12 +14,12 @@ use Rattle.master_page.specs.declared.Phase.TheVariants.{Begin, Presence, Comman
 use Rattle.master_page.specs.declared.PageStop.TheVariants.{PageNumber, Loop, Outside, Crc16, NoPresence}
 use Rattle.master_page.specs.declared.PageRead.{PageRead}
 use Rattle.plug_fields.specs.Fields.{padded, same, rest_at, value_of}
-use Rattle.plug_master_packing.specs.Page.{partBytes, part_of, phaseBytes, pageStopOf, phaseOf, pageAt, pageNone, pageReadBytes, pageReadOf, isPageState, PagePacking}
-use Rattle.plug_master_packing.specs.Code.Page.{phaseOwn}
+use Rattle.plug_master_packing.specs.Page.{part_bytes, part_of, phase_bytes, page_stop_of, phase_of, page_at, page_none, page_read_bytes, page_read_of, is_page_state, PagePacking}
+use Rattle.plug_master_packing.specs.Code.Page.{phase_own}
 use Rattle.plug_fields.proofs.Laws.{past, field, same_tag, same_not, same-own, halves, Laws, laws}
 
-phase-back : (p : Phase) (fields rest : List ℕ) → phaseOf ((padded 8 (phaseBytes p) ++ fields) ++ rest) ≡ p
-unfolding phaseBytes phaseOf partBytes part_of pageStopOf value_of
+phase-back : (p : Phase) (fields rest : List ℕ) → phase_of ((padded 8 (phase_bytes p) ++ fields) ++ rest) ≡ p
+unfolding phase_bytes phase_of part_bytes part_of page_stop_of value_of
 phase-back Begin fields rest = refl
 phase-back Presence fields rest = refl
 phase-back (Command i) fields rest = refl
@@ -36,8 +36,8 @@ phase-back (Stopped Crc16) fields rest = refl
 phase-back (Stopped NoPresence) fields rest = refl
 
 -- the parts that have a byte
-pub part-own : (b : List ℕ) (t : ℕ) → get_or b 4 0 ≡ t → t ≢ 0 → t ≢ 3 → same 4 (padded 4 (partBytes (part_of b))) b ≡ (ltb t 3 && same 6 (replicate 2 0) b)
-unfolding partBytes part_of
+pub part-own : (b : List ℕ) (t : ℕ) → get_or b 4 0 ≡ t → t ≢ 0 → t ≢ 3 → same 4 (padded 4 (part_bytes (part_of b))) b ≡ (ltb t 3 && same 6 (replicate 2 0) b)
+unfolding part_bytes part_of
 part-own b zero e x y = absurd (x refl)
 part-own b (suc zero) e x y = rw (e, same_tag b 4 e, same-own b 5)
 part-own b (suc (suc zero)) e x y = rw (e, same_tag b 4 e, same-own b 5)
@@ -48,8 +48,8 @@ part-own b (suc (suc (suc n))) e x y =
 
 -- the phases that have a tag alone
 pub plain-own : (b : List ℕ) (t : ℕ) → get_or b 0 0 ≡ t → t ≢ 2 → t ≢ 3 → t ≢ 6
-    → same 0 (padded 8 (phaseBytes (phaseOf b))) b ≡ (ltb t 6 && same 1 (replicate 7 0) b)
-unfolding phaseBytes phaseOf
+    → same 0 (padded 8 (phase_bytes (phase_of b))) b ≡ (ltb t 6 && same 1 (replicate 7 0) b)
+unfolding phase_bytes phase_of
 plain-own b zero e x y z = rw (e, same_tag b 0 e)
 plain-own b (suc zero) e x y z = rw (e, same_tag b 0 e)
 plain-own b (suc (suc zero)) e x y z = absurd (x refl)
@@ -66,23 +66,23 @@ plain-own b (suc (suc (suc (suc (suc (suc (suc n))))))) e x y z =
 
 -- ---- states
 
-page : Laws 32 8 (λ s. phaseBytes s.phase) (λ s. s.page.0 ∷ s.hops ∷ []) (λ s. s.bytes) (λ b. pageAt b (phaseOf b)) pageNone
-unfolding pageReadBytes
+page : Laws 32 8 (λ s. phase_bytes s.phase) (λ s. s.page.0 ∷ s.hops ∷ []) (λ s. s.bytes) (λ b. page_at b (phase_of b)) page_none
+unfolding page_read_bytes
 page = laws _ _ _ _ _ _ _ (omega arith) (λ b. refl) refl back
   where
-    back : (s : PageRead) → rest_at 32 (pageReadBytes s) ≡ s.bytes → pageAt (pageReadBytes s) (phaseOf (pageReadBytes s)) ≡ s
+    back : (s : PageRead) → rest_at 32 (page_read_bytes s) ≡ s.bytes → page_at (page_read_bytes s) (phase_of (page_read_bytes s)) ≡ s
     back s rest =
-        let enum = phaseBytes s.phase in
+        let enum = phase_bytes s.phase in
         simp (phase-back s.phase, field 8 0 enum, field 8 1 enum, rest)
 
-pub page-held : (b : List ℕ) → length b ≡ 48 → pageReadOf b ≡ pageAt b (phaseOf b)
-unfolding pageReadOf
+pub page-held : (b : List ℕ) → length b ≡ 48 → page_read_of b ≡ page_at b (phase_of b)
+unfolding page_read_of
 page-held b e = page.held b e
 
-pub page-judged : (b : List ℕ) → length b ≡ 48 → isPageState b ≡ (phaseOwn b && same 10 (replicate 6 0) b)
-unfolding isPageState phaseOwn pageReadOf pageReadBytes
+pub page-judged : (b : List ℕ) → length b ≡ 48 → is_page_state b ≡ (phase_own b && same 10 (replicate 6 0) b)
+unfolding is_page_state phase_own page_read_of page_read_bytes
 page-judged b e = page.judged b e ∙ rw (same-own b 8, same-own b 9)
 
 pub page-packing : PagePacking
-unfolding pageReadBytes pageReadOf isPageState
+unfolding page_read_bytes page_read_of is_page_state
 page-packing = page.inverse

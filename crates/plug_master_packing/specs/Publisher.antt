@@ -7,28 +7,28 @@ use Rattle.master_publisher.specs.declared.Stage.{Stage}
 use Rattle.master_publisher.specs.declared.Stage.TheVariants.{Running, Done as Ended, Stopped}
 use Rattle.master_publisher.specs.declared.Publisher.{Publisher}
 use Rattle.master_plan.specs.Kind.{kind_of, ordinary}
-use Rattle.master_publisher.specs.Stop.{publisherRefusal}
+use Rattle.master_publisher.specs.Stop.{publisher_refusal}
 use Rattle.master_publisher.specs.declared.PublisherStop.{PublisherStop}
 use Rattle.master_publisher.specs.declared.PublisherStop.TheVariants.{ImageLength, PageNumber, Loop, Outside, Crc16, ReadBack, NoFreePage}
 use Rattle.master_publisher.specs.declared.PublisherStop.TheVariants.{RedirectionProtected, BufferLength, NoPresence, DataProtected}
-use Rattle.plug_fields.specs.Fields.{word, joined, front, rest_at, isCopy, Inverse, judgedBy, bufferOutcome, bufferAfter, modeByte, mode_of}
-use Rattle.plug_fields.specs.Fields.{refusalBytes}
+use Rattle.plug_fields.specs.Fields.{word, joined, front, rest_at, is_copy, Inverse, judged_by, buffer_outcome, buffer_after, mode_byte, mode_of}
+use Rattle.plug_fields.specs.Fields.{refusal_bytes}
 
 -- ---- the layout
 
-unfoldable pub stageBytes : Stage → List ℕ
-stageBytes (Running k good) = 0 ∷ word k ++ one good ∷ []
-stageBytes Ended = 1 ∷ []
-stageBytes (Stopped stop) = 2 ∷ refusalBytes (publisherRefusal stop)
+unfoldable pub stage_bytes : Stage → List ℕ
+stage_bytes (Running k good) = 0 ∷ word k ++ one good ∷ []
+stage_bytes Ended = 1 ∷ []
+stage_bytes (Stopped stop) = 2 ∷ refusal_bytes (publisher_refusal stop)
 
-unfoldable pub publisherBytes : Publisher → List ℕ
-publisherBytes s = front 8 (stageBytes s.stage) (s.superseded.0 ∷ s.target.0 ∷ s.used ∷ modeByte s.kind.mode ∷ []) ++ s.new
+unfoldable pub publisher_bytes : Publisher → List ℕ
+publisher_bytes s = front 8 (stage_bytes s.stage) (s.superseded.0 ∷ s.target.0 ∷ s.used ∷ mode_byte s.kind.mode ∷ []) ++ s.new
 
 -- ---- the state of any bytes; a tag that is that of none counts as another one
 
 -- what stopped an update, of a refusal's number and value
-unfoldable pub stopOf : ℕ → ℕ → PublisherStop
-stopOf number value =
+unfoldable pub stop_of : ℕ → ℕ → PublisherStop
+stop_of number value =
     cond (eqb number 3) PageNumber
     (cond (eqb number 4) Loop
     (cond (eqb number 5) (Outside value)
@@ -41,14 +41,14 @@ stopOf number value =
     (cond (eqb number 20) (DataProtected (record { 0 = value }))
     ImageLength)))))))))
 
-unfoldable pub stageOf : List ℕ → Stage
-stageOf b =
+unfoldable pub stage_of : List ℕ → Stage
+stage_of b =
     cond (eqb (get_or b 0 0) 0) (Running (joined (get_or b 1 0) (get_or b 2 0)) (eqb (get_or b 3 0) 1))
-    (cond (eqb (get_or b 0 0) 2) (Stopped (stopOf (get_or b 1 0) (get_or b 2 0)))
+    (cond (eqb (get_or b 0 0) 2) (Stopped (stop_of (get_or b 1 0) (get_or b 2 0)))
     Ended)
 
-abbrev pub publisherAt : List ℕ → Stage → Publisher
-publisherAt b stage =
+abbrev pub publisher_at : List ℕ → Stage → Publisher
+publisher_at b stage =
     record {
       kind = kind_of (mode_of (get_or b 11 0));
       stage = stage;
@@ -59,27 +59,27 @@ publisherAt b stage =
     }
 
 -- of bytes of another length
-abbrev pub publisherNone : Publisher
-publisherNone = record { kind = ordinary; stage = Ended; superseded = record { 0 = 0 }; target = record { 0 = 0 }; used = 0; new = replicate 32 0 }
+abbrev pub publisher_none : Publisher
+publisher_none = record { kind = ordinary; stage = Ended; superseded = record { 0 = 0 }; target = record { 0 = 0 }; used = 0; new = replicate 32 0 }
 
-unfoldable pub publisherOf : List ℕ → Publisher
-publisherOf b = cond (eqb (length b) 48) (publisherAt b (stageOf b)) publisherNone
+unfoldable pub publisher_of : List ℕ → Publisher
+publisher_of b = cond (eqb (length b) 48) (publisher_at b (stage_of b)) publisher_none
 
 -- the bytes are those of a state
-unfoldable pub isPublisherState : List ℕ → Bool
-isPublisherState b = isCopy 48 (publisherBytes (publisherOf b)) b
+unfoldable pub is_publisher_state : List ℕ → Bool
+is_publisher_state b = is_copy 48 (publisher_bytes (publisher_of b)) b
 
 -- 2, or accepted
-unfoldable pub publisherJudged : List ℕ → Outcome Done
-publisherJudged b = judgedBy (isPublisherState b)
+unfoldable pub publisher_judged : List ℕ → Outcome Done
+publisher_judged b = judged_by (is_publisher_state b)
 
 -- a state into a buffer of 48 bytes: 10, or accepted; a refusal leaves the buffer
-unfoldable pub publisherPacked : List ℕ → Outcome Done
-publisherPacked buffer = bufferOutcome 48 buffer
+unfoldable pub publisher_packed : List ℕ → Outcome Done
+publisher_packed buffer = buffer_outcome 48 buffer
 
-unfoldable pub publisherBuffer : Publisher → List ℕ → List ℕ
-publisherBuffer s buffer = bufferAfter 48 (publisherBytes s) buffer
+unfoldable pub publisher_buffer : Publisher → List ℕ → List ℕ
+publisher_buffer s buffer = buffer_after 48 (publisher_bytes s) buffer
 
 -- packing and unpacking are inverse
 abbrev pub PublisherPacking : Type 0
-PublisherPacking = Inverse 32 publisherBytes (λ s. s.new) publisherOf isPublisherState
+PublisherPacking = Inverse 32 publisher_bytes (λ s. s.new) publisher_of is_publisher_state

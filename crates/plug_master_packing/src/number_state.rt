@@ -1,11 +1,11 @@
 // The number read's state as 24 bytes: specs/Number.antt has the layout.
 ghost use Rattle.std.specs.Prelude.{◌≡◌, true, [], length};
-ghost use Rattle.base_types.specs.Outcome.{judgedOutcome};
-ghost use Rattle.master_number.specs.Number.{numberStop};
-ghost use Rattle.plug_fields.specs.Fields.{front, isRefusal};
-ghost use Rattle.plug_master_packing.specs.Number.{phaseBytes, numberStopOf, phaseOf, number_at, numberNone, numberBytes, numberReadOf, isNumberState, numberJudged};
-ghost use Rattle.plug_master_packing.specs.Number.{numberPacked, numberBuffer};
-ghost use Rattle.plug_master_packing.specs.Code.Number.{phaseOwn};
+ghost use Rattle.base_types.specs.Outcome.{judged_outcome};
+ghost use Rattle.master_number.specs.Number.{number_stop};
+ghost use Rattle.plug_fields.specs.Fields.{front, is_refusal};
+ghost use Rattle.plug_master_packing.specs.Number.{phase_bytes, number_stop_of, phase_of, number_at, number_none, number_bytes, number_read_of, is_number_state, number_judged};
+ghost use Rattle.plug_master_packing.specs.Number.{number_packed, number_buffer};
+ghost use Rattle.plug_master_packing.specs.Code.Number.{phase_own};
 
 use base_types::refusal;
 use base_types::refusal::{Judged, Refusal};
@@ -19,7 +19,7 @@ pub struct Unpacked {
 }
 
 fn front_of(phase: Phase) -> [u8; 16]
-    ensures { result ≡ front 8 (phaseBytes phase) [] }
+    ensures { result ≡ front 8 (phase_bytes phase) [] }
 {
     match phase {
         Phase::Begin => [0, 0, 0, 0, 0, 0, 0, 0, 0, 0, 0, 0, 0, 0, 0, 0],
@@ -39,7 +39,7 @@ fn front_of(phase: Phase) -> [u8; 16]
 
 // What stopped a read, by the number told; another number counts as 13.
 fn stop_of(number: u8) -> NumberStop
-    ensures { result ≡ numberStopOf number }
+    ensures { result ≡ number_stop_of number }
 {
     match number {
         14 => NumberStop::Crc8,
@@ -50,7 +50,7 @@ fn stop_of(number: u8) -> NumberStop
 
 fn phase_of(b: &[u8]) -> Phase
     requires { length b.now ≡ 24 }
-    ensures { result ≡ phaseOf b.now }
+    ensures { result ≡ phase_of b.now }
 {
     let x = b[1];
     match b[0] {
@@ -65,14 +65,14 @@ fn phase_of(b: &[u8]) -> Phase
 }
 
 fn stop_own(number: u8, value: u8) -> bool
-    ensures { result ≡ isRefusal (numberStop (numberStopOf number)) number value }
+    ensures { result ≡ is_refusal (number_stop (number_stop_of number)) number value }
 {
     plug_fields::is_refusal(master_number::refusal_for(stop_of(number)), number, value)
 }
 
 fn phase_own(b: &[u8]) -> bool
     requires { length b.now ≡ 24 }
-    ensures { result ≡ phaseOwn b.now }
+    ensures { result ≡ phase_own b.now }
 {
     match b[0] {
         2 => plug_fields::zeros(b, 2, 8),
@@ -86,7 +86,7 @@ fn phase_own(b: &[u8]) -> bool
 
 fn state_at(b: &[u8]) -> NumberRead
     requires { length b.now ≡ 24 }
-    ensures { result ≡ number_at b.now (phaseOf b.now) }
+    ensures { result ≡ number_at b.now (phase_of b.now) }
 {
     NumberRead {
         phase: phase_of(b),
@@ -95,7 +95,7 @@ fn state_at(b: &[u8]) -> NumberRead
 }
 
 fn none() -> NumberRead
-    ensures { result ≡ numberNone }
+    ensures { result ≡ number_none }
 {
     NumberRead {
         phase: Phase::Begin,
@@ -106,8 +106,8 @@ fn none() -> NumberRead
 // The state of 24 bytes. Refused: 2 for bytes of another length and for bytes that are those of no state. A state out of its ranges
 // is no matter here: the number read refuses it.
 pub fn unpack(bytes: &[u8]) -> Unpacked
-    ensures judged { judgedOutcome result.judged ≡ numberJudged bytes.now }
-    ensures state { result.state ≡ numberReadOf bytes.now }
+    ensures judged { judged_outcome result.judged ≡ number_judged bytes.now }
+    ensures state { result.state ≡ number_read_of bytes.now }
 {
     if bytes.len() != 24 {
         return Unpacked {
@@ -124,10 +124,10 @@ pub fn unpack(bytes: &[u8]) -> Unpacked
 
 // A state into a buffer of 24 bytes. Refused: 10. What is left there holds that state and is accepted by unpack.
 pub fn pack(state: NumberRead, bytes: &mut [u8]) -> Judged
-    ensures answer { judgedOutcome result ≡ numberPacked bytes.old }
-    ensures bytes { bytes.new ≡ numberBuffer state bytes.old }
-    ensures back { numberReadOf (numberBytes state) ≡ state }
-    ensures kept { isNumberState (numberBytes state) ≡ true }
+    ensures answer { judged_outcome result ≡ number_packed bytes.old }
+    ensures bytes { bytes.new ≡ number_buffer state bytes.old }
+    ensures back { number_read_of (number_bytes state) ≡ state }
+    ensures kept { is_number_state (number_bytes state) ≡ true }
 {
     let phase = state.phase;
     let array = state.bytes;

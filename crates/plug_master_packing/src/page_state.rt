@@ -1,12 +1,12 @@
 // The page read's state as 48 bytes: specs/Page.antt has the layout.
 ghost use Rattle.std.specs.Prelude.{◌≡◌, true, [], length};
-ghost use Rattle.base_types.specs.Outcome.{judgedOutcome};
+ghost use Rattle.base_types.specs.Outcome.{judged_outcome};
 ghost use Rattle.master_page.specs.declared.Phase.TheVariants.{Receive};
-ghost use Rattle.master_page.specs.Page.{pageStop};
-ghost use Rattle.plug_fields.specs.Fields.{front, isRefusal};
-ghost use Rattle.plug_master_packing.specs.Page.{phaseBytes, part_of, pageStopOf, phaseOf, pageAt, pageNone, pageReadBytes, pageReadOf, isPageState, pageJudged};
-ghost use Rattle.plug_master_packing.specs.Page.{pagePacked, pageBuffer};
-ghost use Rattle.plug_master_packing.specs.Code.Page.{partOwn, phaseOwn};
+ghost use Rattle.master_page.specs.Page.{page_stop};
+ghost use Rattle.plug_fields.specs.Fields.{front, is_refusal};
+ghost use Rattle.plug_master_packing.specs.Page.{phase_bytes, part_of, page_stop_of, phase_of, page_at, page_none, page_read_bytes, page_read_of, is_page_state, page_judged};
+ghost use Rattle.plug_master_packing.specs.Page.{page_packed, page_buffer};
+ghost use Rattle.plug_master_packing.specs.Code.Page.{part_own, phase_own};
 
 use base_types::address::{Page, Redirection};
 use base_types::refusal;
@@ -23,7 +23,7 @@ pub struct Unpacked {
 // ---- into bytes
 
 fn front_of_receive(part: Part, left: u8, register: u16) -> [u8; 16]
-    ensures { result ≡ front 8 (phaseBytes (Receive part left register)) [] }
+    ensures { result ≡ front 8 (phase_bytes (Receive part left register)) [] }
 {
     let l = plug_fields::low(register);
     let g = plug_fields::high(register);
@@ -36,7 +36,7 @@ fn front_of_receive(part: Part, left: u8, register: u16) -> [u8; 16]
 }
 
 fn front_of(phase: Phase) -> [u8; 16]
-    ensures { result ≡ front 8 (phaseBytes phase) [] }
+    ensures { result ≡ front 8 (phase_bytes phase) [] }
 {
     match phase {
         Phase::Begin => [0, 0, 0, 0, 0, 0, 0, 0, 0, 0, 0, 0, 0, 0, 0, 0],
@@ -58,7 +58,7 @@ fn front_of(phase: Phase) -> [u8; 16]
 
 // What stopped a read, by the number told and its value; another number counts as 13.
 fn stop_of(number: u8, value: u8) -> PageStop
-    ensures { result ≡ pageStopOf number value }
+    ensures { result ≡ page_stop_of number value }
 {
     match number {
         3 => PageStop::PageNumber,
@@ -84,7 +84,7 @@ fn part_of(b: &[u8]) -> Part
 
 fn phase_of(b: &[u8]) -> Phase
     requires { length b.now ≡ 48 }
-    ensures { result ≡ phaseOf b.now }
+    ensures { result ≡ phase_of b.now }
 {
     let x = b[1];
     let y = b[2];
@@ -101,7 +101,7 @@ fn phase_of(b: &[u8]) -> Phase
 
 fn part_own(b: &[u8]) -> bool
     requires { length b.now ≡ 48 }
-    ensures { result ≡ partOwn b.now }
+    ensures { result ≡ part_own b.now }
 {
     match b[4] {
         0 => plug_fields::zeros(b, 5, 8),
@@ -111,7 +111,7 @@ fn part_own(b: &[u8]) -> bool
 }
 
 fn stop_own(number: u8, value: u8) -> bool
-    ensures { result ≡ isRefusal (pageStop (pageStopOf number value)) number value }
+    ensures { result ≡ is_refusal (page_stop (page_stop_of number value)) number value }
 {
     plug_fields::is_refusal(
         master_page::refusal_for(stop_of(number, value)),
@@ -122,7 +122,7 @@ fn stop_own(number: u8, value: u8) -> bool
 
 fn phase_own(b: &[u8]) -> bool
     requires { length b.now ≡ 48 }
-    ensures { result ≡ phaseOwn b.now }
+    ensures { result ≡ phase_own b.now }
 {
     match b[0] {
         2 => plug_fields::zeros(b, 2, 8),
@@ -136,7 +136,7 @@ fn phase_own(b: &[u8]) -> bool
 
 fn state_at(b: &[u8]) -> PageRead
     requires { length b.now ≡ 48 }
-    ensures { result ≡ pageAt b.now (phaseOf b.now) }
+    ensures { result ≡ page_at b.now (phase_of b.now) }
 {
     PageRead {
         phase: phase_of(b),
@@ -147,7 +147,7 @@ fn state_at(b: &[u8]) -> PageRead
 }
 
 fn none() -> PageRead
-    ensures { result ≡ pageNone }
+    ensures { result ≡ page_none }
 {
     PageRead {
         phase: Phase::Begin,
@@ -160,8 +160,8 @@ fn none() -> PageRead
 // The state of 48 bytes. Refused: 2 for bytes of another length and for bytes that are those of no state. A state out of its ranges
 // is no matter here: the page read refuses it.
 pub fn unpack(bytes: &[u8]) -> Unpacked
-    ensures judged { judgedOutcome result.judged ≡ pageJudged bytes.now }
-    ensures state { result.state ≡ pageReadOf bytes.now }
+    ensures judged { judged_outcome result.judged ≡ page_judged bytes.now }
+    ensures state { result.state ≡ page_read_of bytes.now }
 {
     if bytes.len() != 48 {
         return Unpacked {
@@ -178,10 +178,10 @@ pub fn unpack(bytes: &[u8]) -> Unpacked
 
 // A state into a buffer of 48 bytes. Refused: 10. What is left there holds that state and is accepted by unpack.
 pub fn pack(state: PageRead, bytes: &mut [u8]) -> Judged
-    ensures answer { judgedOutcome result ≡ pagePacked bytes.old }
-    ensures bytes { bytes.new ≡ pageBuffer state bytes.old }
-    ensures back { pageReadOf (pageReadBytes state) ≡ state }
-    ensures kept { isPageState (pageReadBytes state) ≡ true }
+    ensures answer { judged_outcome result ≡ page_packed bytes.old }
+    ensures bytes { bytes.new ≡ page_buffer state bytes.old }
+    ensures back { page_read_of (page_read_bytes state) ≡ state }
+    ensures kept { is_page_state (page_read_bytes state) ≡ true }
 {
     let phase = state.phase;
     let page = state.page;

@@ -1,11 +1,11 @@
 // The publisher's state as 48 bytes: specs/Publisher.antt has the layout.
 ghost use Rattle.std.specs.Prelude.{◌≡◌, true, [], length};
-ghost use Rattle.base_types.specs.Outcome.{judgedOutcome};
-ghost use Rattle.master_publisher.specs.Stop.{publisherRefusal};
-ghost use Rattle.plug_fields.specs.Fields.{front, isRefusal};
-ghost use Rattle.plug_master_packing.specs.Publisher.{stopOf, stageBytes, stageOf, publisherAt, publisherNone, publisherBytes, publisherOf, isPublisherState};
-ghost use Rattle.plug_master_packing.specs.Publisher.{publisherJudged, publisherPacked, publisherBuffer};
-ghost use Rattle.plug_master_packing.specs.Code.Publisher.{stageOwn};
+ghost use Rattle.base_types.specs.Outcome.{judged_outcome};
+ghost use Rattle.master_publisher.specs.Stop.{publisher_refusal};
+ghost use Rattle.plug_fields.specs.Fields.{front, is_refusal};
+ghost use Rattle.plug_master_packing.specs.Publisher.{stop_of, stage_bytes, stage_of, publisher_at, publisher_none, publisher_bytes, publisher_of, is_publisher_state};
+ghost use Rattle.plug_master_packing.specs.Publisher.{publisher_judged, publisher_packed, publisher_buffer};
+ghost use Rattle.plug_master_packing.specs.Code.Publisher.{stage_own};
 
 use base_types::address::Page;
 use base_types::refusal;
@@ -22,7 +22,7 @@ pub struct Unpacked {
 
 // What stopped it, of a refusal's number and value; a number that is that of none counts as 1.
 fn stop_of(number: u8, value: u8) -> PublisherStop
-    ensures { result ≡ stopOf number value }
+    ensures { result ≡ stop_of number value }
 {
     match number {
         3 => PublisherStop::PageNumber,
@@ -40,7 +40,7 @@ fn stop_of(number: u8, value: u8) -> PublisherStop
 }
 
 fn stop_own(number: u8, value: u8) -> bool
-    ensures { result ≡ isRefusal (publisherRefusal (stopOf number value)) number value }
+    ensures { result ≡ is_refusal (publisher_refusal (stop_of number value)) number value }
 {
     plug_fields::is_refusal(
         master_publisher::refusal_of(stop_of(number, value)),
@@ -50,7 +50,7 @@ fn stop_own(number: u8, value: u8) -> bool
 }
 
 fn front_of(stage: Stage) -> [u8; 16]
-    ensures { result ≡ front 8 (stageBytes stage) [] }
+    ensures { result ≡ front 8 (stage_bytes stage) [] }
 {
     match stage {
         Stage::Running(k, good) => {
@@ -71,7 +71,7 @@ fn front_of(stage: Stage) -> [u8; 16]
 
 fn stage_of(b: &[u8]) -> Stage
     requires { length b.now ≡ 48 }
-    ensures { result ≡ stageOf b.now }
+    ensures { result ≡ stage_of b.now }
 {
     let x = b[1];
     let y = b[2];
@@ -84,7 +84,7 @@ fn stage_of(b: &[u8]) -> Stage
 
 fn stage_own(b: &[u8]) -> bool
     requires { length b.now ≡ 48 }
-    ensures { result ≡ stageOwn b.now }
+    ensures { result ≡ stage_own b.now }
 {
     match b[0] {
         0 => plug_fields::both(b[3] < 2, plug_fields::zeros(b, 4, 8)),
@@ -98,7 +98,7 @@ fn stage_own(b: &[u8]) -> bool
 
 fn state_at(b: &[u8]) -> Publisher
     requires { length b.now ≡ 48 }
-    ensures { result ≡ publisherAt b.now (stageOf b.now) }
+    ensures { result ≡ publisher_at b.now (stage_of b.now) }
 {
     Publisher {
         kind: kind::of_mode(plug_fields::mode_of(b[11])),
@@ -111,7 +111,7 @@ fn state_at(b: &[u8]) -> Publisher
 }
 
 fn none() -> Publisher
-    ensures { result ≡ publisherNone }
+    ensures { result ≡ publisher_none }
 {
     Publisher {
         kind: kind::ordinary(),
@@ -126,8 +126,8 @@ fn none() -> Publisher
 // The state of 48 bytes. Refused: 2 for bytes of another length and for bytes that are those of no state. A state out of its ranges
 // is no matter here: the publisher refuses it.
 pub fn unpack(bytes: &[u8]) -> Unpacked
-    ensures judged { judgedOutcome result.judged ≡ publisherJudged bytes.now }
-    ensures state { result.state ≡ publisherOf bytes.now }
+    ensures judged { judged_outcome result.judged ≡ publisher_judged bytes.now }
+    ensures state { result.state ≡ publisher_of bytes.now }
 {
     if bytes.len() != 48 {
         return Unpacked {
@@ -144,10 +144,10 @@ pub fn unpack(bytes: &[u8]) -> Unpacked
 
 // A state into a buffer of 48 bytes. Refused: 10. What is left there holds that state and is accepted by unpack.
 pub fn pack(state: Publisher, bytes: &mut [u8]) -> Judged
-    ensures answer { judgedOutcome result ≡ publisherPacked bytes.old }
-    ensures bytes { bytes.new ≡ publisherBuffer state bytes.old }
-    ensures back { publisherOf (publisherBytes state) ≡ state }
-    ensures kept { isPublisherState (publisherBytes state) ≡ true }
+    ensures answer { judged_outcome result ≡ publisher_packed bytes.old }
+    ensures bytes { bytes.new ≡ publisher_buffer state bytes.old }
+    ensures back { publisher_of (publisher_bytes state) ≡ state }
+    ensures kept { is_publisher_state (publisher_bytes state) ≡ true }
 {
     let kind = state.kind;
     let mode = kind.mode;

@@ -1,14 +1,14 @@
 // The publisher: fed a list of replies, and step by step with its state in 48 bytes that the caller lends.
 ghost use Rattle.std.specs.Prelude.{◌≡◌};
-ghost use Rattle.base_types.specs.Outcome.{judgedOutcome};
-ghost use Rattle.master_publisher.specs.Start.{startOutcome};
-ghost use Rattle.master_publisher.specs.Call.{turnOutcome, callAnswer, callState};
-ghost use Rattle.plug_master_packing.specs.Publisher.{publisherBuffer};
-ghost use Rattle.master_runs.specs.Publisher.{publisherFedOutcome, publisherFedEvents};
+ghost use Rattle.base_types.specs.Outcome.{judged_outcome};
+ghost use Rattle.master_publisher.specs.Start.{start_outcome};
+ghost use Rattle.master_publisher.specs.Call.{turn_outcome, call_answer, call_state};
+ghost use Rattle.plug_master_packing.specs.Publisher.{publisher_buffer};
+ghost use Rattle.master_runs.specs.Publisher.{publisher_fed_outcome, publisher_fed_events};
 ghost use Rattle.plug_answers.specs.Calls.{whether};
-ghost use Rattle.plug_answers.specs.Answers.{code_in, nextAnswered};
-ghost use Rattle.plug_publisher_calls.specs.Publisher.{publisherRunOutcome, publisherRunEvents, publisherRunTold, publisherStarted, publisherStartState};
-ghost use Rattle.plug_publisher_calls.specs.Publisher.{publisherStartTold, publisherCallOutcome, publisherCallState, publisherCallTold};
+ghost use Rattle.plug_answers.specs.Answers.{code_in, next_answered};
+ghost use Rattle.plug_publisher_calls.specs.Publisher.{publisher_run_outcome, publisher_run_events, publisher_run_told, publisher_started, publisher_start_state};
+ghost use Rattle.plug_publisher_calls.specs.Publisher.{publisher_start_told, publisher_call_outcome, publisher_call_state, publisher_call_told};
 
 use base_types::address::Page;
 use base_types::refusal;
@@ -21,8 +21,8 @@ use plug_master_packing::publisher_state;
 
 // What a call told, and its code.
 fn tell(told: Answer, answer: &mut [u8]) -> u32
-    ensures code { result ≡ code_in (turnOutcome told) }
-    ensures answer { answer.new ≡ nextAnswered (turnOutcome told) answer.old }
+    ensures code { result ≡ code_in (turn_outcome told) }
+    ensures answer { answer.new ≡ next_answered (turn_outcome told) answer.old }
 {
     match told {
         Answer::Send(e) => {
@@ -38,9 +38,9 @@ fn tell(told: Answer, answer: &mut [u8]) -> u32
 }
 
 fn run_told(begun: Publisher, replies: &[u8], events: &mut [u8], answer: &mut [u8]) -> u32
-    ensures code { result ≡ code_in (publisherFedOutcome 64 begun replies.now events.old) }
-    ensures events { events.new ≡ publisherFedEvents 64 begun replies.now events.old }
-    ensures answer { answer.new ≡ nextAnswered (publisherFedOutcome 64 begun replies.now events.old) answer.old }
+    ensures code { result ≡ code_in (publisher_fed_outcome 64 begun replies.now events.old) }
+    ensures events { events.new ≡ publisher_fed_events 64 begun replies.now events.old }
+    ensures answer { answer.new ≡ next_answered (publisher_fed_outcome 64 begun replies.now events.old) answer.old }
 {
     let last = master_runs::publish::run(begun, replies, events);
     let told = last.answer;
@@ -48,7 +48,7 @@ fn run_told(begun: Publisher, replies: &[u8], events: &mut [u8], answer: &mut [u
 }
 
 fn ready(told: StartAnswer) -> Judged
-    ensures { judgedOutcome result ≡ whether (startOutcome told) }
+    ensures { judged_outcome result ≡ whether (start_outcome told) }
 {
     match told {
         StartAnswer::Refused(r) => Judged::Refused(r),
@@ -66,9 +66,9 @@ pub fn run_in(
     events: &mut [u8],
     answer: &mut [u8],
 ) -> u32
-    ensures code { result ≡ code_in (publisherRunOutcome 64 kind image.now new.now page replies.now events.old answer.old) }
-    ensures events { events.new ≡ publisherRunEvents 64 kind image.now new.now page replies.now events.old answer.old }
-    ensures answer { answer.new ≡ publisherRunTold 64 kind image.now new.now page replies.now events.old answer.old }
+    ensures code { result ≡ code_in (publisher_run_outcome 64 kind image.now new.now page replies.now events.old answer.old) }
+    ensures events { events.new ≡ publisher_run_events 64 kind image.now new.now page replies.now events.old answer.old }
+    ensures answer { answer.new ≡ publisher_run_told 64 kind image.now new.now page replies.now events.old answer.old }
 {
     if !layout::is_image(image, Page(layout::DS2505)) {
         return 1;
@@ -96,9 +96,9 @@ pub fn start_in(
     state: &mut [u8],
     answer: &mut [u8],
 ) -> u32
-    ensures code { result ≡ code_in (publisherStarted 64 kind image.now new.now page state.old answer.old) }
-    ensures state { state.new ≡ publisherStartState 64 kind image.now new.now page state.old answer.old }
-    ensures answer { answer.new ≡ publisherStartTold 64 kind image.now new.now page state.old answer.old }
+    ensures code { result ≡ code_in (publisher_started 64 kind image.now new.now page state.old answer.old) }
+    ensures state { state.new ≡ publisher_start_state 64 kind image.now new.now page state.old answer.old }
+    ensures answer { answer.new ≡ publisher_start_told 64 kind image.now new.now page state.old answer.old }
 {
     let started = master_publisher::start(kind, image, new, calls::page(page));
     let told = started.answer;
@@ -124,9 +124,9 @@ pub fn start_in(
 
 // A call on a state, and the state after it.
 fn call_state(before: Publisher, reply: bool, state: &mut [u8], answer: &mut [u8]) -> u32
-    ensures code { result ≡ code_in (callAnswer 64 before reply) }
-    ensures state { state.new ≡ publisherBuffer (callState 64 before reply) state.old }
-    ensures answer { answer.new ≡ nextAnswered (callAnswer 64 before reply) answer.old }
+    ensures code { result ≡ code_in (call_answer 64 before reply) }
+    ensures state { state.new ≡ publisher_buffer (call_state 64 before reply) state.old }
+    ensures answer { answer.new ≡ next_answered (call_answer 64 before reply) answer.old }
 {
     let stepped = master_publisher::call(before, reply);
     let told = stepped.answer;
@@ -137,9 +137,9 @@ fn call_state(before: Publisher, reply: bool, state: &mut [u8], answer: &mut [u8
 
 // One call on the bytes of a state, once these and the reply are judged.
 pub fn call(state: &mut [u8], reply: u32, answer: &mut [u8]) -> u32
-    ensures code { result ≡ code_in (publisherCallOutcome 64 state.old reply answer.old) }
-    ensures state { state.new ≡ publisherCallState 64 state.old reply answer.old }
-    ensures answer { answer.new ≡ publisherCallTold 64 state.old reply answer.old }
+    ensures code { result ≡ code_in (publisher_call_outcome 64 state.old reply answer.old) }
+    ensures state { state.new ≡ publisher_call_state 64 state.old reply answer.old }
+    ensures answer { answer.new ≡ publisher_call_told 64 state.old reply answer.old }
 {
     let unpacked = publisher_state::unpack(state);
     let held = unpacked.judged;

@@ -1,8 +1,8 @@
 // A whole update on the image of a chip.
 ghost use Rattle.std.specs.Prelude.{◌≡◌};
-ghost use Rattle.master_update.specs.Update.{updateOutcome};
+ghost use Rattle.master_update.specs.Update.{update_outcome};
 ghost use Rattle.plug_answers.specs.Answers.{code_in, answered};
-ghost use Rattle.plug_publisher_calls.specs.Update.{updateValues, updateImage};
+ghost use Rattle.plug_publisher_calls.specs.Update.{update_values, update_image};
 
 use base_types::address::Page;
 use chip_memory::layout;
@@ -12,8 +12,8 @@ use plug_answers::{answer, calls};
 
 // What an update came to: L and T, or a refusal.
 fn tell_update(updated: Updated, answer: &mut [u8]) -> u32
-    ensures code { result ≡ code_in (updateOutcome updated) }
-    ensures answer { answer.new ≡ answered (updateOutcome updated) answer.old }
+    ensures code { result ≡ code_in (update_outcome updated) }
+    ensures answer { answer.new ≡ answered (update_outcome updated) answer.old }
 {
     match updated {
         Updated::Refused(r) => answer::refuse(r, answer),
@@ -34,9 +34,9 @@ pub fn update_in(
     events: u32,
     answer: &mut [u8],
 ) -> u32
-    ensures code { result ≡ code_in (updateValues 64 kind image.old number.now new.now page answer.old) }
-    ensures answer { answer.new ≡ answered (updateValues 64 kind image.old number.now new.now page answer.old) answer.old }
-    ensures image { image.new ≡ updateImage 64 kind image.old number.now new.now page events answer.old }
+    ensures code { result ≡ code_in (update_values 64 kind image.old number.now new.now page answer.old) }
+    ensures answer { answer.new ≡ answered (update_values 64 kind image.old number.now new.now page answer.old) answer.old }
+    ensures image { image.new ≡ update_image 64 kind image.old number.now new.now page events answer.old }
 {
     if !layout::is_image(image, Page(layout::DS2505)) {
         return 1;

@@ -1,64 +1,64 @@
 -- The page read's entries, over the page count n.
 use Rattle.std.specs.Prelude.{ℕ, true, ◌&&◌, List, eqb, length}
-use Rattle.base_types.specs.Outcome.{Outcome, accepted, judge, Done, done, unlessRefused, following, inOrder}
-use Rattle.chip_memory.specs.Layout.{isPage}
+use Rattle.base_types.specs.Outcome.{Outcome, accepted, judge, Done, done, unless_refused, following, in_order}
+use Rattle.chip_memory.specs.Layout.{is_page}
 use Rattle.bus_scripts.specs.Next.{Next}
-use Rattle.master_page.specs.PageRead.{pageInRange, startAnswer, startState, readAnswer, readState, readBuffer}
-use Rattle.master_page.specs.Held.{pageTold, pageCalled, pageStarted}
-use Rattle.master_runs.specs.Calls.{areReplies, asMany, fedCalls, lastTold, eventBytes}
-use Rattle.plug_master_packing.specs.Page.{pageReadOf, pageJudged, pageBuffer}
-use Rattle.plug_answers.specs.Answers.{isAnswer, nextAnswered}
-use Rattle.plug_answers.specs.Calls.{callJudged, whether}
+use Rattle.master_page.specs.PageRead.{page_in_range, start_answer, start_state, read_answer, read_state, read_buffer}
+use Rattle.master_page.specs.Held.{page_told, page_called, page_started}
+use Rattle.master_runs.specs.Calls.{are_replies, as_many, fed_calls, last_told, event_bytes}
+use Rattle.plug_master_packing.specs.Page.{page_read_of, page_judged, page_buffer}
+use Rattle.plug_answers.specs.Answers.{is_answer, next_answered}
+use Rattle.plug_answers.specs.Calls.{call_judged, whether}
 
 -- ---- a whole run
 
 -- 2 for a byte that is no reply; 10 for the answer's buffer, the events' and the page's; 3
-unfoldable pub pageRunJudged : ℕ → ℕ → List ℕ → List ℕ → List ℕ → List ℕ → Outcome Done
-pageRunJudged n p replies events buffer answer =
-    following (inOrder true (areReplies replies) (isAnswer answer && (asMany replies events && eqb (length buffer) 32))) (whether (startAnswer n p))
+unfoldable pub page_run_judged : ℕ → ℕ → List ℕ → List ℕ → List ℕ → List ℕ → Outcome Done
+page_run_judged n p replies events buffer answer =
+    following (in_order true (are_replies replies) (is_answer answer && (as_many replies events && eqb (length buffer) 32))) (whether (start_answer n p))
 
--- what the last call pageTold
-unfoldable pub pageRunOutcome : ℕ → ℕ → List ℕ → List ℕ → List ℕ → List ℕ → Outcome Next
-pageRunOutcome n p replies events buffer answer =
-    lastTold (pageCalled n) (pageTold n) (pageRunJudged n p replies events buffer answer) (pageStarted n p buffer) replies
+-- what the last call page_told
+unfoldable pub page_run_outcome : ℕ → ℕ → List ℕ → List ℕ → List ℕ → List ℕ → Outcome Next
+page_run_outcome n p replies events buffer answer =
+    last_told (page_called n) (page_told n) (page_run_judged n p replies events buffer answer) (page_started n p buffer) replies
 
-unfoldable pub pageRunTold : ℕ → ℕ → List ℕ → List ℕ → List ℕ → List ℕ → List ℕ
-pageRunTold n p replies events buffer answer = nextAnswered (pageRunOutcome n p replies events buffer answer) answer
+unfoldable pub page_run_told : ℕ → ℕ → List ℕ → List ℕ → List ℕ → List ℕ → List ℕ
+page_run_told n p replies events buffer answer = next_answered (page_run_outcome n p replies events buffer answer) answer
 
 -- a byte for each call
-unfoldable pub pageRunEvents : ℕ → ℕ → List ℕ → List ℕ → List ℕ → List ℕ → List ℕ
-pageRunEvents n p replies events buffer answer =
-    eventBytes (pageCalled n) (pageTold n) (pageRunJudged n p replies events buffer answer) (pageStarted n p buffer) replies events
+unfoldable pub page_run_events : ℕ → ℕ → List ℕ → List ℕ → List ℕ → List ℕ → List ℕ
+page_run_events n p replies events buffer answer =
+    event_bytes (page_called n) (page_told n) (page_run_judged n p replies events buffer answer) (page_started n p buffer) replies events
 
-unfoldable pub pageRunBuffer : ℕ → ℕ → List ℕ → List ℕ → List ℕ → List ℕ → List ℕ
-pageRunBuffer n p replies events buffer answer =
-    unlessRefused (pageRunJudged n p replies events buffer answer) (fedCalls (pageCalled n) (pageTold n) (pageStarted n p buffer) replies).buffer buffer
+unfoldable pub page_run_buffer : ℕ → ℕ → List ℕ → List ℕ → List ℕ → List ℕ → List ℕ
+page_run_buffer n p replies events buffer answer =
+    unless_refused (page_run_judged n p replies events buffer answer) (fed_calls (page_called n) (page_told n) (page_started n p buffer) replies).buffer buffer
 
 -- ---- step by step
 
 -- 10 for the state's buffer, 3
-unfoldable pub pageStartJudged : ℕ → ℕ → List ℕ → Outcome Done
-pageStartJudged n p state = judge (eqb (length state) 48) 10 (judge (isPage n p) 3 (accepted done))
+unfoldable pub page_start_judged : ℕ → ℕ → List ℕ → Outcome Done
+page_start_judged n p state = judge (eqb (length state) 48) 10 (judge (is_page n p) 3 (accepted done))
 
-unfoldable pub pageStartState : ℕ → ℕ → List ℕ → List ℕ
-pageStartState n p state = unlessRefused (pageStartJudged n p state) (pageBuffer (startState n p) state) state
+unfoldable pub page_start_state : ℕ → ℕ → List ℕ → List ℕ
+page_start_state n p state = unless_refused (page_start_judged n p state) (page_buffer (start_state n p) state) state
 
 -- a call on the state that bytes hold: 2 for bytes that are no state, for the state and for the reply, 10 for the answer's buffer
-unfoldable pub pageCallJudged : ℕ → List ℕ → ℕ → List ℕ → Outcome Done
-pageCallJudged n state reply answer = callJudged (pageJudged state) (pageInRange n (pageReadOf state)) reply answer
+unfoldable pub page_call_judged : ℕ → List ℕ → ℕ → List ℕ → Outcome Done
+page_call_judged n state reply answer = call_judged (page_judged state) (page_in_range n (page_read_of state)) reply answer
 
 -- then the read's own, 10 for the page's buffer among them
-unfoldable pub pageCallOutcome : ℕ → List ℕ → ℕ → List ℕ → List ℕ → Outcome Next
-pageCallOutcome n state reply buffer answer =
-    following (pageCallJudged n state reply answer) (readAnswer n (pageReadOf state) (eqb reply 1) buffer)
+unfoldable pub page_call_outcome : ℕ → List ℕ → ℕ → List ℕ → List ℕ → Outcome Next
+page_call_outcome n state reply buffer answer =
+    following (page_call_judged n state reply answer) (read_answer n (page_read_of state) (eqb reply 1) buffer)
 
-unfoldable pub pageCallTold : ℕ → List ℕ → ℕ → List ℕ → List ℕ → List ℕ
-pageCallTold n state reply buffer answer = nextAnswered (pageCallOutcome n state reply buffer answer) answer
+unfoldable pub page_call_told : ℕ → List ℕ → ℕ → List ℕ → List ℕ → List ℕ
+page_call_told n state reply buffer answer = next_answered (page_call_outcome n state reply buffer answer) answer
 
-unfoldable pub pageCallState : ℕ → List ℕ → ℕ → List ℕ → List ℕ → List ℕ
-pageCallState n state reply buffer answer =
-    unlessRefused (pageCallJudged n state reply answer) (pageBuffer (readState n (pageReadOf state) (eqb reply 1) buffer) state) state
+unfoldable pub page_call_state : ℕ → List ℕ → ℕ → List ℕ → List ℕ → List ℕ
+page_call_state n state reply buffer answer =
+    unless_refused (page_call_judged n state reply answer) (page_buffer (read_state n (page_read_of state) (eqb reply 1) buffer) state) state
 
-unfoldable pub pageCallBuffer : ℕ → List ℕ → ℕ → List ℕ → List ℕ → List ℕ
-pageCallBuffer n state reply buffer answer =
-    unlessRefused (pageCallJudged n state reply answer) (readBuffer n (pageReadOf state) (eqb reply 1) buffer) buffer
+unfoldable pub page_call_buffer : ℕ → List ℕ → ℕ → List ℕ → List ℕ → List ℕ
+page_call_buffer n state reply buffer answer =
+    unless_refused (page_call_judged n state reply answer) (read_buffer n (page_read_of state) (eqb reply 1) buffer) buffer

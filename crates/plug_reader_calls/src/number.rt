@@ -1,10 +1,10 @@
 // The number read: fed a list of replies, and step by step with its state in 24 bytes that the caller lends.
 ghost use Rattle.std.specs.Prelude.{◌≡◌};
-ghost use Rattle.master_number.specs.NumberRead.{numberBegun, answerOutcome, numberAnswer, numberState};
-ghost use Rattle.master_runs.specs.Number.{numberFedOutcome, numberFedEvents};
-ghost use Rattle.plug_master_packing.specs.Number.{numberPacked, numberBuffer};
-ghost use Rattle.plug_answers.specs.Answers.{code_in, nextAnswered};
-ghost use Rattle.plug_reader_calls.specs.Number.{numberRunOutcome, numberRunEvents, numberRunTold, numberCallOutcome, numberCallState, numberCallTold};
+ghost use Rattle.master_number.specs.NumberRead.{number_begun, answer_outcome, number_answer, number_state};
+ghost use Rattle.master_runs.specs.Number.{number_fed_outcome, number_fed_events};
+ghost use Rattle.plug_master_packing.specs.Number.{number_packed, number_buffer};
+ghost use Rattle.plug_answers.specs.Answers.{code_in, next_answered};
+ghost use Rattle.plug_reader_calls.specs.Number.{number_run_outcome, number_run_events, number_run_told, number_call_outcome, number_call_state, number_call_told};
 
 use base_types::refusal::Judged;
 use master_number::{Answer, NumberRead};
@@ -13,8 +13,8 @@ use plug_master_packing::number_state;
 
 // What a call told, and its code.
 fn tell(told: Answer, bytes: [u8; 8], answer: &mut [u8]) -> u32
-    ensures code { result ≡ code_in (answerOutcome told bytes) }
-    ensures answer { answer.new ≡ nextAnswered (answerOutcome told bytes) answer.old }
+    ensures code { result ≡ code_in (answer_outcome told bytes) }
+    ensures answer { answer.new ≡ next_answered (answer_outcome told bytes) answer.old }
 {
     match told {
         Answer::Send(e) => {
@@ -30,9 +30,9 @@ fn tell(told: Answer, bytes: [u8; 8], answer: &mut [u8]) -> u32
 }
 
 fn run_told(replies: &[u8], events: &mut [u8], answer: &mut [u8]) -> u32
-    ensures code { result ≡ code_in (numberFedOutcome numberBegun replies.now events.old) }
-    ensures events { events.new ≡ numberFedEvents numberBegun replies.now events.old }
-    ensures answer { answer.new ≡ nextAnswered (numberFedOutcome numberBegun replies.now events.old) answer.old }
+    ensures code { result ≡ code_in (number_fed_outcome number_begun replies.now events.old) }
+    ensures events { events.new ≡ number_fed_events number_begun replies.now events.old }
+    ensures answer { answer.new ≡ next_answered (number_fed_outcome number_begun replies.now events.old) answer.old }
 {
     let last = master_runs::number::run(master_number::start(), replies, events);
     let told = last.answer;
@@ -43,9 +43,9 @@ fn run_told(replies: &[u8], events: &mut [u8], answer: &mut [u8]) -> u32
 
 // The read fed these replies, once all is judged.
 pub fn run(replies: &[u8], events: &mut [u8], answer: &mut [u8]) -> u32
-    ensures code { result ≡ code_in (numberRunOutcome replies.now events.old answer.old) }
-    ensures events { events.new ≡ numberRunEvents replies.now events.old answer.old }
-    ensures answer { answer.new ≡ numberRunTold replies.now events.old answer.old }
+    ensures code { result ≡ code_in (number_run_outcome replies.now events.old answer.old) }
+    ensures events { events.new ≡ number_run_events replies.now events.old answer.old }
+    ensures answer { answer.new ≡ number_run_told replies.now events.old answer.old }
 {
     let judged = calls::judge_answer(
         master_runs::number::judge(master_number::start(), replies, events),
@@ -60,17 +60,17 @@ pub fn run(replies: &[u8], events: &mut [u8], answer: &mut [u8]) -> u32
 
 // The state before the first call.
 pub fn start(state: &mut [u8]) -> u32
-    ensures code { result ≡ code_in (numberPacked state.old) }
-    ensures state { state.new ≡ numberBuffer numberBegun state.old }
+    ensures code { result ≡ code_in (number_packed state.old) }
+    ensures state { state.new ≡ number_buffer number_begun state.old }
 {
     answer::code(number_state::pack(master_number::start(), state))
 }
 
 // A call on a state, and the state after it.
 fn call_state(before: NumberRead, reply: bool, state: &mut [u8], answer: &mut [u8]) -> u32
-    ensures code { result ≡ code_in (numberAnswer before reply) }
-    ensures state { state.new ≡ numberBuffer (numberState before reply) state.old }
-    ensures answer { answer.new ≡ nextAnswered (numberAnswer before reply) answer.old }
+    ensures code { result ≡ code_in (number_answer before reply) }
+    ensures state { state.new ≡ number_buffer (number_state before reply) state.old }
+    ensures answer { answer.new ≡ next_answered (number_answer before reply) answer.old }
 {
     let stepped = master_number::call(before, reply);
     let told = stepped.answer;
@@ -82,9 +82,9 @@ fn call_state(before: NumberRead, reply: bool, state: &mut [u8], answer: &mut [u
 
 // One call on the bytes of a state, once these and the reply are judged.
 pub fn call(state: &mut [u8], reply: u32, answer: &mut [u8]) -> u32
-    ensures code { result ≡ code_in (numberCallOutcome state.old reply answer.old) }
-    ensures state { state.new ≡ numberCallState state.old reply answer.old }
-    ensures answer { answer.new ≡ numberCallTold state.old reply answer.old }
+    ensures code { result ≡ code_in (number_call_outcome state.old reply answer.old) }
+    ensures state { state.new ≡ number_call_state state.old reply answer.old }
+    ensures answer { answer.new ≡ number_call_told state.old reply answer.old }
 {
     let unpacked = number_state::unpack(state);
     let held = unpacked.judged;

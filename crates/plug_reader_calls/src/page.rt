@@ -1,14 +1,14 @@
 // The page read: fed a list of replies, and step by step with its state in 48 bytes that the caller lends.
 ghost use Rattle.std.specs.Prelude.{◌≡◌};
-ghost use Rattle.base_types.specs.Outcome.{judgedOutcome};
-ghost use Rattle.master_page.specs.PageRead.{readOutcome, startOutcome, readAnswer, readState, readBuffer};
-ghost use Rattle.plug_master_packing.specs.Page.{pageBuffer};
-ghost use Rattle.master_page.specs.Held.{pageHeld};
-ghost use Rattle.master_runs.specs.Page.{pageFedOutcome, pageFed, pageFedEvents};
+ghost use Rattle.base_types.specs.Outcome.{judged_outcome};
+ghost use Rattle.master_page.specs.PageRead.{read_outcome, start_outcome, read_answer, read_state, read_buffer};
+ghost use Rattle.plug_master_packing.specs.Page.{page_buffer};
+ghost use Rattle.master_page.specs.Held.{page_held};
+ghost use Rattle.master_runs.specs.Page.{page_fed_outcome, page_fed, page_fed_events};
 ghost use Rattle.plug_answers.specs.Calls.{whether};
-ghost use Rattle.plug_answers.specs.Answers.{code_in, nextAnswered};
-ghost use Rattle.plug_reader_calls.specs.Page.{pageRunOutcome, pageRunEvents, pageRunBuffer, pageRunTold, pageStartJudged, pageStartState};
-ghost use Rattle.plug_reader_calls.specs.Page.{pageCallOutcome, pageCallState, pageCallBuffer, pageCallTold};
+ghost use Rattle.plug_answers.specs.Answers.{code_in, next_answered};
+ghost use Rattle.plug_reader_calls.specs.Page.{page_run_outcome, page_run_events, page_run_buffer, page_run_told, page_start_judged, page_start_state};
+ghost use Rattle.plug_reader_calls.specs.Page.{page_call_outcome, page_call_state, page_call_buffer, page_call_told};
 
 use base_types::address::Page;
 use base_types::refusal::Judged;
@@ -19,8 +19,8 @@ use plug_master_packing::page_state;
 
 // What a call told, and its code.
 fn tell(told: Answer, answer: &mut [u8]) -> u32
-    ensures code { result ≡ code_in (readOutcome told) }
-    ensures answer { answer.new ≡ nextAnswered (readOutcome told) answer.old }
+    ensures code { result ≡ code_in (read_outcome told) }
+    ensures answer { answer.new ≡ next_answered (read_outcome told) answer.old }
 {
     match told {
         Answer::Send(e) => {
@@ -42,10 +42,10 @@ fn run_told(
     buffer: &mut [u8],
     answer: &mut [u8],
 ) -> u32
-    ensures code { result ≡ code_in (pageFedOutcome 64 (pageHeld begun buffer.old) replies.now events.old) }
-    ensures events { events.new ≡ pageFedEvents 64 (pageHeld begun buffer.old) replies.now events.old }
-    ensures buffer { buffer.new ≡ (pageFed 64 (pageHeld begun buffer.old) replies.now events.old).buffer }
-    ensures answer { answer.new ≡ nextAnswered (pageFedOutcome 64 (pageHeld begun buffer.old) replies.now events.old) answer.old }
+    ensures code { result ≡ code_in (page_fed_outcome 64 (page_held begun buffer.old) replies.now events.old) }
+    ensures events { events.new ≡ page_fed_events 64 (page_held begun buffer.old) replies.now events.old }
+    ensures buffer { buffer.new ≡ (page_fed 64 (page_held begun buffer.old) replies.now events.old).buffer }
+    ensures answer { answer.new ≡ next_answered (page_fed_outcome 64 (page_held begun buffer.old) replies.now events.old) answer.old }
 {
     let last = master_runs::page::run(begun, replies, events, buffer);
     let told = last.answer;
@@ -53,7 +53,7 @@ fn run_told(
 }
 
 fn ready(told: StartAnswer) -> Judged
-    ensures { judgedOutcome result ≡ whether (startOutcome told) }
+    ensures { judged_outcome result ≡ whether (start_outcome told) }
 {
     match told {
         StartAnswer::Refused(r) => Judged::Refused(r),
@@ -69,10 +69,10 @@ pub fn run(
     buffer: &mut [u8],
     answer: &mut [u8],
 ) -> u32
-    ensures code { result ≡ code_in (pageRunOutcome 64 page replies.now events.old buffer.old answer.old) }
-    ensures events { events.new ≡ pageRunEvents 64 page replies.now events.old buffer.old answer.old }
-    ensures buffer { buffer.new ≡ pageRunBuffer 64 page replies.now events.old buffer.old answer.old }
-    ensures answer { answer.new ≡ pageRunTold 64 page replies.now events.old buffer.old answer.old }
+    ensures code { result ≡ code_in (page_run_outcome 64 page replies.now events.old buffer.old answer.old) }
+    ensures events { events.new ≡ page_run_events 64 page replies.now events.old buffer.old answer.old }
+    ensures buffer { buffer.new ≡ page_run_buffer 64 page replies.now events.old buffer.old answer.old }
+    ensures answer { answer.new ≡ page_run_told 64 page replies.now events.old buffer.old answer.old }
 {
     let started = master_page::start(calls::page(page));
     let told = started.answer;
@@ -90,8 +90,8 @@ pub fn run(
 
 // The state before the first call.
 pub fn start(page: u32, state: &mut [u8]) -> u32
-    ensures code { result ≡ code_in (pageStartJudged 64 page state.old) }
-    ensures state { state.new ≡ pageStartState 64 page state.old }
+    ensures code { result ≡ code_in (page_start_judged 64 page state.old) }
+    ensures state { state.new ≡ page_start_state 64 page state.old }
 {
     if state.len() != 48 {
         return 10;
@@ -113,10 +113,10 @@ fn call_state(
     buffer: &mut [u8],
     answer: &mut [u8],
 ) -> u32
-    ensures code { result ≡ code_in (readAnswer 64 before reply buffer.old) }
-    ensures state { state.new ≡ pageBuffer (readState 64 before reply buffer.old) state.old }
-    ensures buffer { buffer.new ≡ readBuffer 64 before reply buffer.old }
-    ensures answer { answer.new ≡ nextAnswered (readAnswer 64 before reply buffer.old) answer.old }
+    ensures code { result ≡ code_in (read_answer 64 before reply buffer.old) }
+    ensures state { state.new ≡ page_buffer (read_state 64 before reply buffer.old) state.old }
+    ensures buffer { buffer.new ≡ read_buffer 64 before reply buffer.old }
+    ensures answer { answer.new ≡ next_answered (read_answer 64 before reply buffer.old) answer.old }
 {
     let stepped = master_page::call(before, reply, buffer);
     let told = stepped.answer;
@@ -127,10 +127,10 @@ fn call_state(
 
 // One call on the bytes of a state, once these and the reply are judged.
 pub fn call(state: &mut [u8], reply: u32, buffer: &mut [u8], answer: &mut [u8]) -> u32
-    ensures code { result ≡ code_in (pageCallOutcome 64 state.old reply buffer.old answer.old) }
-    ensures state { state.new ≡ pageCallState 64 state.old reply buffer.old answer.old }
-    ensures buffer { buffer.new ≡ pageCallBuffer 64 state.old reply buffer.old answer.old }
-    ensures answer { answer.new ≡ pageCallTold 64 state.old reply buffer.old answer.old }
+    ensures code { result ≡ code_in (page_call_outcome 64 state.old reply buffer.old answer.old) }
+    ensures state { state.new ≡ page_call_state 64 state.old reply buffer.old answer.old }
+    ensures buffer { buffer.new ≡ page_call_buffer 64 state.old reply buffer.old answer.old }
+    ensures answer { answer.new ≡ page_call_told 64 state.old reply buffer.old answer.old }
 {
     let unpacked = page_state::unpack(state);
     let held = unpacked.judged;

@@ -1,9 +1,9 @@
 // The list of a stored chip.
 ghost use Rattle.std.specs.Prelude.{◌≡◌, ◌+◌, ◌*◌, ◌≤◌, length};
-ghost use Rattle.chip_memory.specs.Layout.{pageCount};
-ghost use Rattle.plug_sheet.specs.Text.{put_at, digitOf, decimal};
-ghost use Rattle.plug_sheet.specs.List.{pagesLine, finalText, outsideText, verdictText, verdictLine, pageLine, pageLines, countsLine, list_of, refusedLine};
-ghost use Rattle.plug_sheet.specs.List.{room_for, listOutcome, listAnswer, listBuffer, refusalAnswer, refusalBuffer};
+ghost use Rattle.chip_memory.specs.Layout.{page_count};
+ghost use Rattle.plug_sheet.specs.Text.{put_at, digit_of, decimal};
+ghost use Rattle.plug_sheet.specs.List.{pages_line, final_text, outside_text, verdict_text, verdict_line, page_line, page_lines, counts_line, list_of, refused_line};
+ghost use Rattle.plug_sheet.specs.List.{room_for, list_outcome, list_answer, list_buffer, refusal_answer, refusal_buffer};
 
 use crate::stored;
 use base_types::address::Page;
@@ -36,7 +36,7 @@ fn put(buffer: &mut [u8], at: usize, bytes: &[u8]) -> usize
 
 // The last decimal digit of a number.
 fn digit(x: usize) -> u8
-    ensures { result ≡ digitOf x }
+    ensures { result ≡ digit_of x }
 {
     b'0' + (x % 10) as u8
 }
@@ -63,8 +63,8 @@ fn put_decimal(buffer: &mut [u8], at: usize, x: usize) -> usize
 
 fn put_pages(text: &mut [u8], at: usize, last: Page) -> usize
     requires { at + 10 ≤ length text.old }
-    ensures next { result ≡ at + length (pagesLine (pageCount last)) }
-    ensures text { text.new ≡ put_at at (pagesLine (pageCount last)) text.old }
+    ensures next { result ≡ at + length (pages_line (page_count last)) }
+    ensures text { text.new ≡ put_at at (pages_line (page_count last)) text.old }
 {
     let a = put(text, at, b"pages ");
     let b = put_decimal(text, a, layout::page_count(last));
@@ -73,8 +73,8 @@ fn put_pages(text: &mut [u8], at: usize, last: Page) -> usize
 
 fn put_final(text: &mut [u8], at: usize, q: Page, hops: u8) -> usize
     requires { at + 19 ≤ length text.old }
-    ensures next { result ≡ at + length (finalText q.0 hops) }
-    ensures text { text.new ≡ put_at at (finalText q.0 hops) text.old }
+    ensures next { result ≡ at + length (final_text q.0 hops) }
+    ensures text { text.new ≡ put_at at (final_text q.0 hops) text.old }
 {
     let a = put(text, at, b" final ");
     let b = put_decimal(text, a, q.0 as usize);
@@ -84,8 +84,8 @@ fn put_final(text: &mut [u8], at: usize, q: Page, hops: u8) -> usize
 
 fn put_outside(text: &mut [u8], at: usize, x: u8) -> usize
     requires { at + 19 ≤ length text.old }
-    ensures next { result ≡ at + length (outsideText x) }
-    ensures text { text.new ≡ put_at at (outsideText x) text.old }
+    ensures next { result ≡ at + length (outside_text x) }
+    ensures text { text.new ≡ put_at at (outside_text x) text.old }
 {
     let a = put(text, at, b" outside ");
     put_decimal(text, a, x as usize)
@@ -93,8 +93,8 @@ fn put_outside(text: &mut [u8], at: usize, x: u8) -> usize
 
 fn put_verdict(text: &mut [u8], at: usize, v: Verdict) -> usize
     requires { at + 19 ≤ length text.old }
-    ensures next { result ≡ at + length (verdictText v) }
-    ensures text { text.new ≡ put_at at (verdictText v) text.old }
+    ensures next { result ≡ at + length (verdict_text v) }
+    ensures text { text.new ≡ put_at at (verdict_text v) text.old }
 {
     match v {
         Verdict::Final(q, hops) => put_final(text, at, q, hops),
@@ -106,8 +106,8 @@ fn put_verdict(text: &mut [u8], at: usize, v: Verdict) -> usize
 // A page and what its walk found.
 fn put_line(text: &mut [u8], at: usize, p: Page, v: Verdict) -> usize
     requires { at + 24 ≤ length text.old }
-    ensures next { result ≡ at + length (verdictLine p.0 v) }
-    ensures text { text.new ≡ put_at at (verdictLine p.0 v) text.old }
+    ensures next { result ≡ at + length (verdict_line p.0 v) }
+    ensures text { text.new ≡ put_at at (verdict_line p.0 v) text.old }
 {
     let a = put_decimal(text, at, p.0 as usize);
     let b = put_verdict(text, a, v);
@@ -117,8 +117,8 @@ fn put_line(text: &mut [u8], at: usize, p: Page, v: Verdict) -> usize
 // The line of a page, if it is redirected.
 fn put_page(text: &mut [u8], at: usize, image: &[u8], last: Page, p: Page) -> usize
     requires { at + 24 ≤ length text.old }
-    ensures next { result ≡ at + length (pageLine (pageCount last) image.now p.0) }
-    ensures text { text.new ≡ put_at at (pageLine (pageCount last) image.now p.0) text.old }
+    ensures next { result ≡ at + length (page_line (page_count last) image.now p.0) }
+    ensures text { text.new ≡ put_at at (page_line (page_count last) image.now p.0) text.old }
 {
     if image::redirection_of(image, last, p).0 == 0xFF {
         return at;
@@ -128,9 +128,9 @@ fn put_page(text: &mut [u8], at: usize, image: &[u8], last: Page, p: Page) -> us
 
 // The lines of all pages.
 fn put_lines(text: &mut [u8], at: usize, image: &[u8], last: Page) -> usize
-    requires { at + 24 * pageCount last ≤ length text.old }
-    ensures next { result ≡ at + length (pageLines (pageCount last) image.now (pageCount last) 0) }
-    ensures text { text.new ≡ put_at at (pageLines (pageCount last) image.now (pageCount last) 0) text.old }
+    requires { at + 24 * page_count last ≤ length text.old }
+    ensures next { result ≡ at + length (page_lines (page_count last) image.now (page_count last) 0) }
+    ensures text { text.new ≡ put_at at (page_lines (page_count last) image.now (page_count last) 0) text.old }
 {
     let mut next = at;
     for p in 0..layout::page_count(last) {
@@ -141,8 +141,8 @@ fn put_lines(text: &mut [u8], at: usize, image: &[u8], last: Page) -> usize
 
 fn put_counts(text: &mut [u8], at: usize, image: &[u8], last: Page) -> usize
     requires { at + 24 ≤ length text.old }
-    ensures next { result ≡ at + length (countsLine (pageCount last) image.now) }
-    ensures text { text.new ≡ put_at at (countsLine (pageCount last) image.now) text.old }
+    ensures next { result ≡ at + length (counts_line (page_count last) image.now) }
+    ensures text { text.new ≡ put_at at (counts_line (page_count last) image.now) text.old }
 {
     let a = put(text, at, b"redirected ");
     let b = put_decimal(text, a, chip_chain::count::redirected_count(image, last));
@@ -153,9 +153,9 @@ fn put_counts(text: &mut [u8], at: usize, image: &[u8], last: Page) -> usize
 
 // The whole list of an image.
 fn put_list(text: &mut [u8], image: &[u8], last: Page) -> usize
-    requires { room_for (pageCount last) ≤ length text.old }
-    ensures next { result ≡ 0 + length (list_of (pageCount last) image.now) }
-    ensures text { text.new ≡ put_at 0 (list_of (pageCount last) image.now) text.old }
+    requires { room_for (page_count last) ≤ length text.old }
+    ensures next { result ≡ 0 + length (list_of (page_count last) image.now) }
+    ensures text { text.new ≡ put_at 0 (list_of (page_count last) image.now) text.old }
 {
     let a = put_pages(text, 0, last);
     let b = put_lines(text, a, image, last);
@@ -165,8 +165,8 @@ fn put_list(text: &mut [u8], image: &[u8], last: Page) -> usize
 // What is said of a refused sheet.
 fn put_refused(text: &mut [u8], number: u8) -> usize
     requires { 18 ≤ length text.old }
-    ensures next { result ≡ 0 + length (refusedLine number) }
-    ensures text { text.new ≡ put_at 0 (refusedLine number) text.old }
+    ensures next { result ≡ 0 + length (refused_line number) }
+    ensures text { text.new ≡ put_at 0 (refused_line number) text.old }
 {
     let a = put(text, 0, b"sheet refused ");
     let b = put_decimal(text, a, number as usize);
@@ -177,8 +177,8 @@ fn put_refused(text: &mut [u8], number: u8) -> usize
 
 // The list of a sheet, into a buffer of at least 1,576 bytes. Refused: 10, 12; the buffer is then untouched.
 pub fn write(sheet: &[u8], text: &mut [u8]) -> Listed
-    ensures answer { listOutcome result ≡ listAnswer 64 sheet.now text.old }
-    ensures text { text.new ≡ listBuffer 64 sheet.now text.old }
+    ensures answer { list_outcome result ≡ list_answer 64 sheet.now text.old }
+    ensures text { text.new ≡ list_buffer 64 sheet.now text.old }
 {
     if text.len() < ROOM {
         return Listed::Refused(Refusal::BufferLength);
@@ -193,8 +193,8 @@ pub fn write(sheet: &[u8], text: &mut [u8]) -> Listed
 
 // The line that says why a sheet was refused, into such a buffer. Refused: 10.
 pub fn write_refusal(refusal: Refusal, text: &mut [u8]) -> Listed
-    ensures answer { listOutcome result ≡ refusalAnswer 64 refusal text.old }
-    ensures text { text.new ≡ refusalBuffer 64 refusal text.old }
+    ensures answer { list_outcome result ≡ refusal_answer 64 refusal text.old }
+    ensures text { text.new ≡ refusal_buffer 64 refusal text.old }
 {
     if text.len() < ROOM {
         return Listed::Refused(Refusal::BufferLength);

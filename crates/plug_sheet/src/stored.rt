@@ -1,8 +1,8 @@
 // The stored sheet: a header of counts and offsets, the registration number, the image.
 ghost use Rattle.std.specs.Prelude.{◌≡◌, ◌||◌, ◌+◌, ◌/◌, ◌%◌, eqb, length, get_or};
-ghost use Rattle.base_types.specs.Outcome.{judgedOutcome};
-ghost use Rattle.chip_memory.specs.Layout.{pageCount, statusIndex, is_held};
-ghost use Rattle.plug_sheet.specs.Stored.{headerOf, sheetSize, startsWith, gapsBlank, isSheet, sheetAnswer, numberPart, imagePart, sheetOf, writeAnswer, writeBuffer};
+ghost use Rattle.base_types.specs.Outcome.{judged_outcome};
+ghost use Rattle.chip_memory.specs.Layout.{page_count, status_index, is_held};
+ghost use Rattle.plug_sheet.specs.Stored.{header_of, sheet_size, starts_with, gaps_blank, is_sheet, sheet_answer, number_part, image_part, sheet_of, write_answer, write_buffer};
 
 use base_types::address::{Page, StatusAddress};
 use base_types::refusal::{Judged, Refusal};
@@ -29,14 +29,14 @@ fn high(x: usize) -> u8
 
 // How many bytes a sheet has.
 fn sheet_size(last: Page) -> usize
-    ensures { result ≡ sheetSize (pageCount last) }
+    ensures { result ≡ sheet_size (page_count last) }
 {
     IMAGE + layout::image_size(last)
 }
 
 // Counts and offsets, low byte first, and six zero bytes.
 fn header(last: Page) -> [u8; 16]
-    ensures { result ≡ headerOf (pageCount last) }
+    ensures { result ≡ header_of (page_count last) }
 {
     let pages = layout::page_count(last);
     let status = IMAGE + layout::data_size(last);
@@ -63,7 +63,7 @@ fn header(last: Page) -> [u8; 16]
 
 // A slice begins with these bytes.
 fn starts_with(sheet: &[u8], front: &[u8]) -> bool
-    ensures { result ≡ startsWith front.now sheet.now }
+    ensures { result ≡ starts_with front.now sheet.now }
 {
     for i in 0..front.len() {
         if sheet.len() <= i {
@@ -78,7 +78,7 @@ fn starts_with(sheet: &[u8], front: &[u8]) -> bool
 
 // A status address is no gap, or holds FFh.
 fn gap_blank(image: &[u8], last: Page, a: StatusAddress) -> bool
-    ensures { result ≡ (is_held (pageCount last) a.0 || eqb (get_or image.now (statusIndex (pageCount last) a.0) 0) 0xFF) }
+    ensures { result ≡ (is_held (page_count last) a.0 || eqb (get_or image.now (status_index (page_count last) a.0) 0) 0xFF) }
 {
     if layout::is_held(last, a) {
         return true;
@@ -88,7 +88,7 @@ fn gap_blank(image: &[u8], last: Page, a: StatusAddress) -> bool
 
 // An image holds FFh at every gap.
 fn gaps_blank(image: &[u8], last: Page) -> bool
-    ensures { result ≡ gapsBlank (pageCount last) image.now }
+    ensures { result ≡ gaps_blank (page_count last) image.now }
 {
     for a in 0..layout::status_size(last) {
         if !gap_blank(image, last, StatusAddress(a)) {
@@ -100,7 +100,7 @@ fn gaps_blank(image: &[u8], last: Page) -> bool
 
 // The right length, the right header, and FFh at every gap.
 fn is_sheet(sheet: &[u8], last: Page) -> bool
-    ensures { result ≡ isSheet (pageCount last) sheet.now }
+    ensures { result ≡ is_sheet (page_count last) sheet.now }
 {
     if sheet.len() != sheet_size(last) {
         return false;
@@ -114,7 +114,7 @@ fn is_sheet(sheet: &[u8], last: Page) -> bool
 
 // Whether bytes are the sheet of a DS2505. Refused: 12.
 pub fn judge(sheet: &[u8]) -> Judged
-    ensures { judgedOutcome result ≡ sheetAnswer 64 sheet.now }
+    ensures { judged_outcome result ≡ sheet_answer 64 sheet.now }
 {
     if !is_sheet(sheet, Page(layout::DS2505)) {
         return Judged::Refused(Refusal::Sheet);
@@ -124,7 +124,7 @@ pub fn judge(sheet: &[u8]) -> Judged
 
 // The registration number, as the part of the sheet that is its own eight bytes; where judge refuses, the empty part.
 pub fn number(sheet: &[u8]) -> &[u8]
-    ensures { result.now ≡ numberPart 64 sheet.now }
+    ensures { result.now ≡ number_part 64 sheet.now }
 {
     match judge(sheet) {
         Judged::Refused(_) => &sheet[0..0],
@@ -134,7 +134,7 @@ pub fn number(sheet: &[u8]) -> &[u8]
 
 // The image, as its part of the sheet; where judge refuses, the empty part.
 pub fn image(sheet: &[u8]) -> &[u8]
-    ensures { result.now ≡ imagePart 64 sheet.now }
+    ensures { result.now ≡ image_part 64 sheet.now }
 {
     match judge(sheet) {
         Judged::Refused(_) => &sheet[0..0],
@@ -145,7 +145,7 @@ pub fn image(sheet: &[u8]) -> &[u8]
 // The header, the number and the image, one after the other.
 fn fill(number: &[u8], image: &[u8], sheet: &mut [u8], last: Page)
     requires { (length number.now ≡ 8) × (24 + length image.now ≡ length sheet.old) }
-    ensures { sheet.new ≡ sheetOf (pageCount last) number.now image.now }
+    ensures { sheet.new ≡ sheet_of (page_count last) number.now image.now }
 {
     let front = header(last);
     page::copy(&front, sheet);
@@ -156,8 +156,8 @@ fn fill(number: &[u8], image: &[u8], sheet: &mut [u8], last: Page)
 // The sheet of a number and an image, into a buffer of 2,392 bytes. Refused: 1, 10, 12 for an image with anything but FFh at a gap; the
 // buffer is then untouched.
 pub fn write(number: [u8; 8], image: &[u8], sheet: &mut [u8]) -> Judged
-    ensures answer { judgedOutcome result ≡ writeAnswer 64 image.now sheet.old }
-    ensures sheet { sheet.new ≡ writeBuffer 64 number image.now sheet.old }
+    ensures answer { judged_outcome result ≡ write_answer 64 image.now sheet.old }
+    ensures sheet { sheet.new ≡ write_buffer 64 number image.now sheet.old }
 {
     if !layout::is_image(image, Page(layout::DS2505)) {
         return Judged::Refused(Refusal::ImageLength);

@@ -2,8 +2,8 @@
 ghost use Rattle.std.specs.Prelude.{◌≡◌, ◌≤◌, length};
 ghost use Rattle.base_types.specs.Refusal.{number_of};
 ghost use Rattle.chip_memory.specs.Page.{copied};
-ghost use Rattle.plug_sheet.specs.List.{room_for, refusedLine};
-ghost use Rattle.program_listing.specs.Report.{reportOf, reportBuffer};
+ghost use Rattle.plug_sheet.specs.List.{room_for, refused_line};
+ghost use Rattle.program_listing.specs.Report.{report_of, report_buffer};
 
 use base_types::refusal::Refusal;
 use libc::STDOUT_FILENO;
@@ -13,8 +13,8 @@ use plug_sheet::list::Listed;
 // The line of a refusal into a buffer, and how many bytes it has.
 fn refusal(refusal: Refusal, text: &mut [u8]) -> usize
     requires { room_for 64 ≤ length text.old }
-    ensures size { result ≡ length (refusedLine (number_of refusal)) }
-    ensures text { text.new ≡ copied (refusedLine (number_of refusal)) text.old }
+    ensures size { result ≡ length (refused_line (number_of refusal)) }
+    ensures text { text.new ≡ copied (refused_line (number_of refusal)) text.old }
 {
     match list::write_refusal(refusal, text) {
         Listed::Refused(_) => 0,
@@ -24,8 +24,8 @@ fn refusal(refusal: Refusal, text: &mut [u8]) -> usize
 
 // The list of a sheet, or the line of its refusal, into a buffer, and how many bytes it has. What is past it stays.
 pub fn report(sheet: &[u8], text: &mut [u8; 1576]) -> usize
-    ensures size { result ≡ length (reportOf 64 sheet.now) }
-    ensures text { text.new ≡ reportBuffer 64 sheet.now text.old }
+    ensures size { result ≡ length (report_of 64 sheet.now) }
+    ensures text { text.new ≡ report_buffer 64 sheet.now text.old }
 {
     match list::write(sheet, text) {
         Listed::Refused(r) => refusal(r, text),

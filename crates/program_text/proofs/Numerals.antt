@@ -16,28 +16,28 @@ use mir.Val.{SFits, to_z}
 use mir.ValLaws.{to_z_pos}
 use borrow.Author.Tests.{leb-true, lt-ltb}
 use Rattle.program_text.specs.declared.numeral.Unsigned.TheVariants.{Faulty, Number}
-use Rattle.program_text.specs.Numeral.{isDigit, digitsFrom, naturalOf, isNegative}
+use Rattle.program_text.specs.Numeral.{is_digit, digits_from, natural_of, is_negative}
 
 -- ---- one step of the loop
 
 module _ (v : ℕ) (text : List ℕ) (i : ℕ) where
-  pub digits-next : i < length text → isDigit (get_or text i 0) ≡ true
-      → digitsFrom v (drop i text) ≡ digitsFrom (10 * v + (get_or text i 0 - 48)) (drop (i + 1) text)
-  unfolding digitsFrom
-  digits-next h e = rw add-one (ap (digitsFrom v) (drop-cons text i 0 h) ∙ simp e)
+  pub digits-next : i < length text → is_digit (get_or text i 0) ≡ true
+      → digits_from v (drop i text) ≡ digits_from (10 * v + (get_or text i 0 - 48)) (drop (i + 1) text)
+  unfolding digits_from
+  digits-next h e = rw add-one (ap (digits_from v) (drop-cons text i 0 h) ∙ simp e)
 
-  pub digits-stop : i < length text → isDigit (get_or text i 0) ≡ false → digitsFrom v (drop i text) ≡ Faulty
-  unfolding digitsFrom
-  digits-stop h e = ap (digitsFrom v) (drop-cons text i 0 h) ∙ simp e
+  pub digits-stop : i < length text → is_digit (get_or text i 0) ≡ false → digits_from v (drop i text) ≡ Faulty
+  unfolding digits_from
+  digits-stop h e = ap (digits_from v) (drop-cons text i 0 h) ∙ simp e
 
-  pub digits-end : length text ≤ i → digitsFrom v (drop i text) ≡ Number v
-  unfolding digitsFrom
-  digits-end h = ap (digitsFrom v) (drop_of_length-le text h)
+  pub digits-end : length text ≤ i → digits_from v (drop i text) ≡ Number v
+  unfolding digits_from
+  digits-end h = ap (digits_from v) (drop_of_length-le text h)
 
 -- ---- bounds
 
-pub digit-bounds : (b : ℕ) → isDigit b ≡ true → (48 ≤ b) × (b ≤ 57)
-unfolding isDigit
+pub digit-bounds : (b : ℕ) → is_digit b ≡ true → (48 ≤ b) × (b ≤ 57)
+unfolding is_digit
 digit-bounds b e = go (leb 48 b) (leb b 57) refl refl e
   where
     go : (t u : Bool) → leb 48 b ≡ t → leb b 57 ≡ u → (t && u) ≡ true → (48 ≤ b) × (b ≤ 57)
@@ -46,7 +46,7 @@ digit-bounds b e = go (leb 48 b) (leb b 57) refl refl e
     go false u f g h = absurd (let z : ◌≡◌ {A = ℕ} 0 1 = cc in omega arith)
 
 -- the number of i digits is below 10 ^ i
-pub next-below : (v i b : ℕ) → v < 10 ^ i → isDigit b ≡ true → 10 * v + (b - 48) < 10 ^ (i + 1)
+pub next-below : (v i b : ℕ) → v < 10 ^ i → is_digit b ≡ true → 10 * v + (b - 48) < 10 ^ (i + 1)
 next-below v i b h e = rw (add-one, pow-suc) (omega (arith, digit-bounds b e))
 
 pub eight-below : (v i : ℕ) → v < 10 ^ i → i < 9 → v < 100000000
@@ -55,21 +55,21 @@ eight-below v i h k =
     let p : 10 ^ i ≤ 10 ^ 8 = pow-le-pow_right (lit< tt) few in
     omega arith
 
-digits-below : (text : List ℕ) (v i x : ℕ) → v < 10 ^ i → digitsFrom v text ≡ Number x → x < 10 ^ (i + length text)
-unfolding digitsFrom
+digits-below : (text : List ℕ) (v i x : ℕ) → v < 10 ^ i → digits_from v text ≡ Number x → x < 10 ^ (i + length text)
+unfolding digits_from
 digits-below [] v i x h e = let s : v ≡ x = cc in rw (add-zero, ← s) h
-digits-below (b ∷ bs) v i x h e = go (isDigit b) refl e (λ d. digits-below bs (10 * v + (b - 48)) (i + 1) x (next-below v i b h d))
+digits-below (b ∷ bs) v i x h e = go (is_digit b) refl e (λ d. digits-below bs (10 * v + (b - 48)) (i + 1) x (next-below v i b h d))
   where
-    go : (t : Bool) → isDigit b ≡ t → cond t (digitsFrom (10 * v + (b - 48)) bs) Faulty ≡ Number x
-        → (isDigit b ≡ true → digitsFrom (10 * v + (b - 48)) bs ≡ Number x → x < 10 ^ (i + 1 + length bs)) → x < 10 ^ (i + suc (length bs))
+    go : (t : Bool) → is_digit b ≡ t → cond t (digits_from (10 * v + (b - 48)) bs) Faulty ≡ Number x
+        → (is_digit b ≡ true → digits_from (10 * v + (b - 48)) bs ≡ Number x → x < 10 ^ (i + 1 + length bs)) → x < 10 ^ (i + suc (length bs))
     go true d k f = let s : i + 1 + length bs ≡ i + suc (length bs) = omega arith in rw s at (f d k)
     go false d k f = absurd (let z : ◌≡◌ {A = ℕ} 0 1 = cc in omega arith)
 
-pub natural-below : (text : List ℕ) (x : ℕ) → naturalOf text ≡ Number x → x < 1000000000
-unfolding naturalOf
+pub natural-below : (text : List ℕ) (x : ℕ) → natural_of text ≡ Number x → x < 1000000000
+unfolding natural_of
 natural-below text x e = go (leb 1 (length text)) (leb (length text) 9) refl e
   where
-    go : (t u : Bool) → leb (length text) 9 ≡ u → cond (t && u) (digitsFrom 0 text) Faulty ≡ Number x → x < 1000000000
+    go : (t u : Bool) → leb (length text) 9 ≡ u → cond (t && u) (digits_from 0 text) Faulty ≡ Number x → x < 1000000000
     go true true f k =
         let few : length text ≤ 9 = leb-true (length text) 9 f in
         let p : 10 ^ length text ≤ 10 ^ 9 = pow-le-pow_right (lit< tt) few in
@@ -82,18 +82,18 @@ natural-below text x e = go (leb 1 (length text)) (leb (length text) 9) refl e
 
 -- ---- the minus
 
-pub no_minus : (text : List ℕ) → length text < 1 → isNegative text ≡ false
-unfolding isNegative
+pub no_minus : (text : List ℕ) → length text < 1 → is_negative text ≡ false
+unfolding is_negative
 no_minus [] h = refl
 no_minus (b ∷ bs) h = absurd (omega arith)
 
-pub first-minus : (text : List ℕ) → 1 ≤ length text → isNegative text ≡ eqb (get_or text 0 0) 45
-unfolding isNegative
+pub first-minus : (text : List ℕ) → 1 ≤ length text → is_negative text ≡ eqb (get_or text 0 0) 45
+unfolding is_negative
 first-minus [] h = absurd (omega arith)
 first-minus (b ∷ bs) h = refl
 
-pub minus-some : (text : List ℕ) → isNegative text ≡ true → 1 ≤ length text
-unfolding isNegative
+pub minus-some : (text : List ℕ) → is_negative text ≡ true → 1 ≤ length text
+unfolding is_negative
 minus-some [] e = absurd (let z : ◌≡◌ {A = ℕ} 0 1 = cc in omega arith)
 minus-some (b ∷ bs) e = omega arith
 

@@ -1,6 +1,6 @@
 // Decimal numbers, read from text.
 ghost use Rattle.std.specs.Prelude.{◌≡◌, ◌≤◌, length};
-ghost use Rattle.program_text.specs.Numeral.{isDigit, digitsFrom, naturalOf, isNegative, plus, minus, integerOf};
+ghost use Rattle.program_text.specs.Numeral.{is_digit, digits_from, natural_of, is_negative, plus, minus, integer_of};
 
 #[derive(Drop)]
 pub enum Unsigned {
@@ -15,7 +15,7 @@ pub enum Signed {
 }
 
 fn is_digit(b: u8) -> bool
-    ensures { result ≡ isDigit b }
+    ensures { result ≡ is_digit b }
 {
     if b < b'0' {
         return false;
@@ -26,7 +26,7 @@ fn is_digit(b: u8) -> bool
 // The number of at most nine digits, which thirty-two bits hold.
 fn digits(text: &[u8]) -> Unsigned
     requires { length text.now ≤ 9 }
-    ensures { result ≡ digitsFrom 0 text.now }
+    ensures { result ≡ digits_from 0 text.now }
 {
     let mut value: u32 = 0;
     for i in 0..text.len() {
@@ -41,7 +41,7 @@ fn digits(text: &[u8]) -> Unsigned
 
 // A number without a sign, of one to nine digits.
 pub fn natural(text: &[u8]) -> Unsigned
-    ensures { result ≡ naturalOf text.now }
+    ensures { result ≡ natural_of text.now }
 {
     if text.len() < 1 {
         return Unsigned::Faulty;
@@ -53,7 +53,7 @@ pub fn natural(text: &[u8]) -> Unsigned
 }
 
 fn is_negative(text: &[u8]) -> bool
-    ensures { result ≡ isNegative text.now }
+    ensures { result ≡ is_negative text.now }
 {
     if text.len() < 1 {
         return false;
@@ -63,7 +63,7 @@ fn is_negative(text: &[u8]) -> bool
 
 // The number of a text that has no minus.
 fn positive(text: &[u8]) -> Signed
-    ensures { result ≡ plus (naturalOf text.now) }
+    ensures { result ≡ plus (natural_of text.now) }
 {
     match natural(text) {
         Unsigned::Faulty => Signed::Faulty,
@@ -73,7 +73,7 @@ fn positive(text: &[u8]) -> Signed
 
 // The number of a text after its minus.
 fn negative(text: &[u8]) -> Signed
-    ensures { result ≡ minus (naturalOf text.now) }
+    ensures { result ≡ minus (natural_of text.now) }
 {
     match natural(text) {
         Unsigned::Faulty => Signed::Faulty,
@@ -83,7 +83,7 @@ fn negative(text: &[u8]) -> Signed
 
 // A number of one to nine digits, with a minus in front or without.
 pub fn integer(text: &[u8]) -> Signed
-    ensures { result ≡ integerOf text.now }
+    ensures { result ≡ integer_of text.now }
 {
     if is_negative(text) {
         return negative(&text[1..]);

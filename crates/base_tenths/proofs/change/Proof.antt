@@ -7,14 +7,14 @@ use mir.ValLaws.{to_z-of_z}
 use borrow.Author.Tests.{not-true, not-false}
 use borrow.Author.Rules.{rules}
 use Rattle.base_types.specs.Outcome.{Outcome, accepted}
-use Rattle.base_tenths.specs.Tenths.{is_value, Folds, fold_of, changeAnswer}
+use Rattle.base_tenths.specs.Tenths.{is_value, Folds, fold_of, change_answer}
 use Rattle.base_tenths.proofs.Integers.{difference-fits}
 use Rattle.base_tenths.proofs.Laws.{folds}
 use Rattle.base_tenths.proofs.change.Statement.{statement}
 use Rattle.base_tenths.proofs.change.Tie as tie
 
 -- both clauses from the first
-clauses : (old new : ℤ) (told : Outcome ℤ) → told ≡ changeAnswer old new → (told ≡ changeAnswer old new) × ((d : ℤ) → told ≡ accepted d → Folds (new -ℤ old) d)
+clauses : (old new : ℤ) (told : Outcome ℤ) → told ≡ change_answer old new → (told ≡ change_answer old new) × ((d : ℤ) → told ≡ accepted d → Folds (new -ℤ old) d)
 clauses old new told e = (e, λ d h. folds old new d (sym e ∙ h))
 
 -- what is_value told of a number
@@ -22,14 +22,14 @@ judged : (v : ℤ) → SFits w32 v → {t u : Bool} → t ≡ is_value (to_z w32
 judged v f e g = ap is_value (sym (to_z-of_z w32 v f)) ∙ sym e ∙ g
 
 returns : tie.Need-returns
-unfolding changeAnswer
+unfolding change_answer
 returns c = clauses _ _ _ (simp (judged _ c.before.before.fits.old c.before.is-value.ensures (not-true _ c.if1.taken)))
 
 old_value : (c : tie.Else1) → is_value c.before.before.args.old ≡ true
 old_value c = judged _ c.before.before.fits.old c.before.is-value.ensures (not-false _ c.if1.left)
 
 returns-2 : tie.Need-returns-2
-unfolding changeAnswer
+unfolding change_answer
 returns-2 c =
     clauses _ _ _ (simp (old_value c.before.before, judged _ c.before.before.before.before.fits.new c.before.is-value2.ensures (not-true _ c.if2.taken)))
 
@@ -42,7 +42,7 @@ sub-fold c =
     rw (to_z-of_z w32 s.args.old s.fits.old, to_z-of_z w32 s.args.new s.fits.new) (difference-fits s.args.old s.args.new (old_value c.before.before) (new-value c))
 
 returns-3 : tie.Need-returns-3
-unfolding changeAnswer
+unfolding change_answer
 returns-3 c =
     let s = c.before.before.before.before.before in
     let x = to_z-of_z w32 _ (sub-fold c.before) ∙ ap₂ ◌-ℤ◌ (to_z-of_z w32 s.args.new s.fits.new) (to_z-of_z w32 s.args.old s.fits.old) in

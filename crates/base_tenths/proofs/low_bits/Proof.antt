@@ -7,7 +7,7 @@ use mir.Syntax.{w32, w64}
 use mir.Val.{to_z, of_z}
 use mir.ValLaws.{to_z-of_z}
 use borrow.Author.Rules.{rules}
-use Rattle.base_tenths.specs.Tenths.{lowBits}
+use Rattle.base_tenths.specs.Tenths.{low_bits}
 use Rattle.base_tenths.proofs.Integers.{raised-nonneg, raised-mag}
 use Rattle.base_tenths.proofs.low_bits.Statement.{statement}
 use Rattle.base_tenths.proofs.low_bits.Tie as tie
@@ -31,7 +31,7 @@ cast-result-2 c =
     (raised-nonneg c.args.v c.ranges.v.sfits, record { fits = omega (arith, nat_abs-le (c.args.v +ℤ pos 0x100000000) (raised-mag c.args.v c.ranges.v.sfits)) })
 
 returns : tie.Need-returns
-unfolding lowBits
+unfolding low_bits
 returns c = ap (λ (z : ℤ). nat_abs z % 0x10000) (sum_is c)
 
 pub low-bits-spec : {M : Type 1} → statement M

@@ -1,5 +1,5 @@
 use mathlib.Core.Path.{◌∙◌}
-use Rattle.chip_rom.specs.Rom.{romBit}
+use Rattle.chip_rom.specs.Rom.{rom_bit}
 use borrow.Author.Rules.{rules}
 use Rattle.chip_rom.proofs.chip_bit.Statement.{statement}
 use Rattle.chip_rom.proofs.chip_bit.Tie as tie
@@ -9,7 +9,7 @@ use Rattle.chip_rom.proofs.number_bit.Reads as number-bit-reads
 use Rattle.chip_rom.proofs.number_sent.Reads as number-sent-reads
 
 pub chip-bit-spec : {M : Type 1} → statement M
-unfolding romBit
+unfolding rom_bit
 chip-bit-spec =
     tie.close (tie.spec
     (λ c. search rules) (λ c. search rules) (λ c κs. search rules) (λ c κs. search rules) (λ c. simp c.enum_told.given.1)

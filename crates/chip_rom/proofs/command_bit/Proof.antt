@@ -1,5 +1,5 @@
 use borrow.Author.Tests.{le-ltb, lt-ltb}
-use Rattle.chip_rom.specs.Rom.{romCommandBit}
+use Rattle.chip_rom.specs.Rom.{rom_command_bit}
 use borrow.Author.Rules.{rules}
 use Rattle.chip_rom.proofs.command_bit.Statement.{statement}
 use Rattle.chip_rom.proofs.command_bit.Tie as tie
@@ -8,7 +8,7 @@ use Rattle.chip_rom.proofs.command_bit.Lts as lts
 use Rattle.chip_rom.proofs.command.Reads as command-reads
 
 pub command-bit-spec : {M : Type 1} → statement M
-unfolding romCommandBit
+unfolding rom_command_bit
 command-bit-spec =
     tie.close (tie.spec
     (λ c. search rules) (λ c κs. search rules) (λ c. simp (lt-ltb _ _ c.if1.true))

@@ -1,5 +1,5 @@
 use borrow.Author.Tests.{le-ltb, lt-ltb}
-use Rattle.chip_rom.specs.Rom.{numberBit}
+use Rattle.chip_rom.specs.Rom.{number_bit}
 use borrow.Author.Rules.{rules}
 use Rattle.chip_rom.proofs.number_bit.Statement.{statement}
 use Rattle.chip_rom.proofs.number_bit.Tie as tie
@@ -8,7 +8,7 @@ use Rattle.chip_rom.proofs.number_bit.Lts as lts
 use Rattle.base_types.proofs.bits.at.Reads as at_reads
 
 pub number-bit-spec : {M : Type 1} → statement M
-unfolding numberBit
+unfolding number_bit
 number-bit-spec =
     tie.close (tie.spec
     (λ c. search rules) (λ c. search rules) (λ c κs. search rules)

@@ -1,5 +1,5 @@
 use mathlib.Core.Path.{◌∙◌}
-use Rattle.chip_rom.specs.Rom.{numberSlot}
+use Rattle.chip_rom.specs.Rom.{number_slot}
 use borrow.Author.Rules.{rules}
 use Rattle.chip_rom.proofs.number_slot.Statement.{statement}
 use Rattle.chip_rom.proofs.number_slot.Tie as tie
@@ -11,7 +11,7 @@ use Rattle.chip_rom.proofs.taken.Reads as taken-reads
 use Rattle.base_types.proofs.bits.agree.Reads as agree-reads
 
 pub number-slot-spec : {M : Type 1} → statement M
-unfolding numberSlot
+unfolding number_slot
 number-slot-spec =
     tie.close (tie.spec
     (λ c. search rules) (λ c κs. search rules) (λ c. search rules) (λ c κs. search rules) (λ c κs. search rules) (λ c κs. search rules)

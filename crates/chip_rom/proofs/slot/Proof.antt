@@ -1,5 +1,5 @@
 use mathlib.Core.Path.{◌∙◌}
-use Rattle.chip_rom.specs.Rom.{romSlot}
+use Rattle.chip_rom.specs.Rom.{rom_slot}
 use borrow.Author.Rules.{rules}
 use Rattle.chip_rom.proofs.slot.Statement.{statement}
 use Rattle.chip_rom.proofs.slot.Tie as tie
@@ -10,7 +10,7 @@ use Rattle.chip_rom.proofs.number_slot.Reads as number-slot-reads
 use Rattle.base_types.proofs.bits.shift_in.Reads as shift-in-reads
 
 pub slot-spec : {M : Type 1} → statement M
-unfolding romSlot
+unfolding rom_slot
 slot-spec =
     tie.close (tie.spec
     (λ c. search rules) (λ c κs. search rules) (λ c κs. search rules) (λ c. search rules) (λ c κs. search rules)

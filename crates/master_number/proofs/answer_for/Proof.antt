@@ -1,10 +1,10 @@
-use Rattle.master_number.specs.Code.NumberSteps.{numberPhaseAnswer}
+use Rattle.master_number.specs.Code.NumberSteps.{number_phase_answer}
 use borrow.Author.Rules.{rules}
 use Rattle.master_number.proofs.answer_for.Statement.{statement}
 use Rattle.master_number.proofs.answer_for.Tie as tie
 
 pub answer-for-spec : {M : Type 1} → statement M
-unfolding numberPhaseAnswer
+unfolding number_phase_answer
 answer-for-spec =
     tie.close (tie.spec
     (λ c. search rules) (λ c κs. search rules) (λ c. search rules) (λ c κs. search rules) (λ c. search rules) (λ c κs. search rules) (λ c κs. search rules)

@@ -1,12 +1,12 @@
 use mathlib.Core.Path.{◌∙◌, sym}
 use borrow.Author.Tests.{not-false, not-true}
-use Rattle.master_number.specs.NumberRead.{numberAnswer, numberState}
+use Rattle.master_number.specs.NumberRead.{number_answer, number_state}
 use borrow.Author.Rules.{rules}
 use Rattle.master_number.proofs.call.Statement.{statement}
 use Rattle.master_number.proofs.call.Tie as tie
 
 pub call-spec : {M : Type 1} → statement M
-unfolding numberAnswer numberState
+unfolding number_answer number_state
 call-spec =
     tie.close (tie.spec
     (λ c κs. search rules)

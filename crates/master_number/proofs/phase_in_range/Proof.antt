@@ -1,10 +1,10 @@
-use Rattle.master_number.specs.NumberRead.{numberPhaseInRange}
+use Rattle.master_number.specs.NumberRead.{number_phase_in_range}
 use borrow.Author.Rules.{rules}
 use Rattle.master_number.proofs.phase_in_range.Statement.{statement}
 use Rattle.master_number.proofs.phase_in_range.Tie as tie
 
 pub phase-in-range-spec : {M : Type 1} → statement M
-unfolding numberPhaseInRange
+unfolding number_phase_in_range
 phase-in-range-spec =
     tie.close (tie.spec
     (λ c. search rules) (λ c. search rules) (λ c. search rules) (λ c. search rules) (λ c κs. search rules) (λ c. search rules) (λ c κs. search rules)

@@ -1,11 +1,11 @@
 use mathlib.Core.Path.{◌∙◌}
-use Rattle.master_number.specs.Code.NumberSteps.{numberNextAt}
+use Rattle.master_number.specs.Code.NumberSteps.{number_next_at}
 use borrow.Author.Rules.{rules}
 use Rattle.master_number.proofs.take.Statement.{statement}
 use Rattle.master_number.proofs.take.Tie as tie
 
 pub take_spec : {M : Type 1} → statement M
-unfolding numberNextAt
+unfolding number_next_at
 take_spec =
     tie.close (tie.spec
     (λ c. search rules) (λ c κs. search rules) (λ c. search rules) (λ c κs. search rules) (λ c. search rules) (λ c κs. search rules)

@@ -1,10 +1,10 @@
-use Rattle.master_page.specs.Code.PageSteps.{pagePhaseAnswer}
+use Rattle.master_page.specs.Code.PageSteps.{page_phase_answer}
 use borrow.Author.Rules.{rules}
 use Rattle.master_page.proofs.answer_for.Statement.{statement}
 use Rattle.master_page.proofs.answer_for.Tie as tie
 
 pub answer-for-spec : {M : Type 1} → statement M
-unfolding pagePhaseAnswer
+unfolding page_phase_answer
 answer-for-spec =
     tie.close (tie.spec
     (λ c. search rules) (λ c κs. search rules) (λ c. search rules) (λ c κs. search rules) (λ c. search rules) (λ c κs. search rules) (λ c κs. search rules)

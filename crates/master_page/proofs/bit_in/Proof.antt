@@ -1,11 +1,11 @@
 use borrow.Author.Tests.{le-ltb, lt-ltb}
-use Rattle.master_page.specs.Code.PageSteps.{pageBitIn}
+use Rattle.master_page.specs.Code.PageSteps.{page_bit_in}
 use borrow.Author.Rules.{rules}
 use Rattle.master_page.proofs.bit_in.Statement.{statement}
 use Rattle.master_page.proofs.bit_in.Tie as tie
 
 pub bit-in-spec : {M : Type 1} → statement M
-unfolding pageBitIn
+unfolding page_bit_in
 bit-in-spec =
     tie.close (tie.spec
     (λ c. search rules) (λ c κs. search rules) (λ c κs. search rules)

@@ -1,12 +1,12 @@
 use mathlib.Core.Path.{◌∙◌, sym}
 use borrow.Author.Tests.{eq-eqb, ne_eqb, not-false, not-true}
-use Rattle.master_page.specs.PageRead.{readAnswer, readBuffer, readState}
+use Rattle.master_page.specs.PageRead.{read_answer, read_buffer, read_state}
 use borrow.Author.Rules.{rules}
 use Rattle.master_page.proofs.call.Statement.{statement}
 use Rattle.master_page.proofs.call.Tie as tie
 
 pub call-spec : {M : Type 1} → statement M
-unfolding readAnswer readBuffer readState
+unfolding read_answer read_buffer read_state
 call-spec =
     tie.close (tie.spec
     (λ c κs. search rules)

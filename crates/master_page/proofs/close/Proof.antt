@@ -1,10 +1,10 @@
-use Rattle.master_page.specs.Code.PageSteps.{pageClosed}
+use Rattle.master_page.specs.Code.PageSteps.{page_closed}
 use borrow.Author.Rules.{rules}
 use Rattle.master_page.proofs.close.Statement.{statement}
 use Rattle.master_page.proofs.close.Tie as tie
 
 pub close_spec : {M : Type 1} → statement M
-unfolding pageClosed
+unfolding page_closed
 close_spec =
     tie.close (tie.spec
     (λ c κs. search rules) (λ c κs. search rules)

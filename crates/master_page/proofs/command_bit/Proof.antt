@@ -1,11 +1,11 @@
 use mathlib.Core.Path.{◌∙◌}
-use Rattle.master_page.specs.Code.PageSteps.{commandBit}
+use Rattle.master_page.specs.Code.PageSteps.{command_bit}
 use borrow.Author.Rules.{rules}
 use Rattle.master_page.proofs.command_bit.Statement.{statement}
 use Rattle.master_page.proofs.command_bit.Tie as tie
 
 pub command-bit-spec : {M : Type 1} → statement M
-unfolding commandBit
+unfolding command_bit
 command-bit-spec =
     tie.close (tie.spec
     (λ c κs. search rules) (λ c κs. search rules)

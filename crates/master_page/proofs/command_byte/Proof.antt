@@ -1,12 +1,12 @@
 use mathlib.Core.Path.{◌∙◌}
 use borrow.Author.Tests.{ne_eqb}
-use Rattle.master_page.specs.Code.PageSteps.{commandByte}
+use Rattle.master_page.specs.Code.PageSteps.{command_byte}
 use borrow.Author.Rules.{rules}
 use Rattle.master_page.proofs.command_byte.Statement.{statement}
 use Rattle.master_page.proofs.command_byte.Tie as tie
 
 pub command-byte-spec : {M : Type 1} → statement M
-unfolding commandByte
+unfolding command_byte
 command-byte-spec =
     tie.close (tie.spec
     (λ c κs. search rules) (λ c κs. search rules) (λ c κs. search rules) (λ c κs. search rules) (λ c. simp c.match.keys1) (λ c. simp c.match.keys2)

@@ -4,13 +4,13 @@ use native.Mathlib.Omega.{arith}
 use borrow.Author.Tests.{lt-ltb, le-ltb, not-false}
 use mathlib.Core.Path.{◌∙◌, sym}
 use borrow.Author.Tests.{not-true}
-use Rattle.master_page.specs.PageRead.{pageInRange}
+use Rattle.master_page.specs.PageRead.{page_in_range}
 use borrow.Author.Rules.{rules}
 use Rattle.master_page.proofs.in_range.Statement.{statement}
 use Rattle.master_page.proofs.in_range.Tie as tie
 
 pub in-range-spec : {M : Type 1} → statement M
-unfolding pageInRange
+unfolding page_in_range
 in-range-spec =
     tie.close (tie.spec
     (λ c κs. search rules)

@@ -1,11 +1,11 @@
 use borrow.Author.Tests.{eq-eqb, ne_eqb}
-use Rattle.master_page.specs.Code.PageSteps.{dataJudged}
+use Rattle.master_page.specs.Code.PageSteps.{data_judged}
 use borrow.Author.Rules.{rules}
 use Rattle.master_page.proofs.judge_data.Statement.{statement}
 use Rattle.master_page.proofs.judge_data.Tie as tie
 
 pub judge-data-spec : {M : Type 1} → statement M
-unfolding dataJudged
+unfolding data_judged
 judge-data-spec =
     tie.close (tie.spec
     (λ c κs. search rules) (λ c κs. search rules) (λ c κs. search rules)

@@ -1,10 +1,10 @@
-use Rattle.master_page.specs.Code.PageSteps.{partIn}
+use Rattle.master_page.specs.Code.PageSteps.{part_in}
 use borrow.Author.Rules.{rules}
 use Rattle.master_page.proofs.part_in.Statement.{statement}
 use Rattle.master_page.proofs.part_in.Tie as tie
 
 pub part-in-spec : {M : Type 1} → statement M
-unfolding partIn
+unfolding part_in
 part-in-spec =
     tie.close (tie.spec
     (λ c. search rules) (λ c. search rules) (λ c κs. search rules) (λ c. search rules) (λ c κs. search rules) (λ c. search rules) (λ c. search rules)

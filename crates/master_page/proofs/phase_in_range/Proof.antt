@@ -1,10 +1,10 @@
-use Rattle.master_page.specs.PageRead.{pagePhaseInRange}
+use Rattle.master_page.specs.PageRead.{page_phase_in_range}
 use borrow.Author.Rules.{rules}
 use Rattle.master_page.proofs.phase_in_range.Statement.{statement}
 use Rattle.master_page.proofs.phase_in_range.Tie as tie
 
 pub phase-in-range-spec : {M : Type 1} → statement M
-unfolding pagePhaseInRange
+unfolding page_phase_in_range
 phase-in-range-spec =
     tie.close (tie.spec
     (λ c. search rules) (λ c. search rules) (λ c. search rules) (λ c. search rules) (λ c κs. search rules) (λ c. search rules) (λ c. search rules)

@@ -1,11 +1,11 @@
 use borrow.Author.Tests.{le-ltb, lt-ltb}
-use Rattle.master_page.specs.PageRead.{pageReceiveInRange}
+use Rattle.master_page.specs.PageRead.{page_receive_in_range}
 use borrow.Author.Rules.{rules}
 use Rattle.master_page.proofs.receive_in_range.Statement.{statement}
 use Rattle.master_page.proofs.receive_in_range.Tie as tie
 
 pub receive-in-range-spec : {M : Type 1} → statement M
-unfolding pageReceiveInRange
+unfolding page_receive_in_range
 receive-in-range-spec =
     tie.close (tie.spec
     (λ c. simp (lt-ltb _ _ c.if1.true)) (λ c κs. search rules)

@@ -1,12 +1,12 @@
 use mathlib.Core.Path.{◌∙◌, sym}
 use borrow.Author.Tests.{not-false, not-true}
-use Rattle.master_page.specs.PageRead.{pageBegun, refusedStart, startAnswer, startState}
+use Rattle.master_page.specs.PageRead.{page_begun, refused_start, start_answer, start_state}
 use borrow.Author.Rules.{rules}
 use Rattle.master_page.proofs.start.Statement.{statement}
 use Rattle.master_page.proofs.start.Tie as tie
 
 pub start_spec : {M : Type 1} → statement M
-unfolding pageBegun refusedStart startAnswer startState
+unfolding page_begun refused_start start_answer start_state
 start_spec =
     tie.close (tie.spec
     (λ c κs. search rules)

@@ -1,10 +1,10 @@
-use Rattle.master_page.specs.PageRead.{pageStopInRange}
+use Rattle.master_page.specs.PageRead.{page_stop_in_range}
 use borrow.Author.Rules.{rules}
 use Rattle.master_page.proofs.stop_in_range.Statement.{statement}
 use Rattle.master_page.proofs.stop_in_range.Tie as tie
 
 pub stop-in-range-spec : {M : Type 1} → statement M
-unfolding pageStopInRange
+unfolding page_stop_in_range
 stop-in-range-spec =
     tie.close (tie.spec
     (λ c. search rules) (λ c. search rules) (λ c. search rules) (λ c κs. search rules) (λ c. search rules) (λ c. search rules)

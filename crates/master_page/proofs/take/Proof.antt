@@ -1,11 +1,11 @@
 use mathlib.Core.Path.{◌∙◌}
-use Rattle.master_page.specs.Code.PageSteps.{pageNextAt}
+use Rattle.master_page.specs.Code.PageSteps.{page_next_at}
 use borrow.Author.Rules.{rules}
 use Rattle.master_page.proofs.take.Statement.{statement}
 use Rattle.master_page.proofs.take.Tie as tie
 
 pub take_spec : {M : Type 1} → statement M
-unfolding pageNextAt
+unfolding page_next_at
 take_spec =
     tie.close (tie.spec
     (λ c. search rules) (λ c κs. search rules) (λ c. search rules) (λ c κs. search rules) (λ c. search rules) (λ c κs. search rules)

@@ -4,7 +4,7 @@ use Rattle.std.specs.Prelude.{ℕ, ◌+◌, ◌-◌, ◌*◌, ◌/◌, ◌%◌, 
 use Rattle.base_types.specs.Bits.{one, bit_at}
 use Rattle.base_types.specs.declared.address.Page.{Page}
 use Rattle.bus_events.specs.Events.{reset, slot, read_slot}
-use Rattle.chip_memory.specs.Layout.{isPage}
+use Rattle.chip_memory.specs.Layout.{is_page}
 use Rattle.chip_chain.specs.Walk.{named_by}
 use Rattle.master_page.specs.declared.Part.{Part}
 use Rattle.master_page.specs.declared.Part.TheVariants.{Redirection, RedirectionCrc, Data, DataCrc}
@@ -15,102 +15,102 @@ use Rattle.master_page.specs.declared.PageStop.TheVariants.{Loop, Outside, Crc16
 use Rattle.master_page.specs.declared.PageRead.{PageRead}
 use Rattle.master_page.specs.declared.Answer.{Answer}
 use Rattle.master_page.specs.declared.Answer.TheVariants.{Send, Final, Refused}
-use Rattle.master_page.specs.Page.{addressLow, addressHigh, commandBytes, crcSent, pageStop}
+use Rattle.master_page.specs.Page.{address_low, address_high, command_bytes, crc_sent, page_stop}
 
 -- ---- what is sent: Skip, Extended Read, and the address 32p
 
-unfoldable pub commandByte : ℕ → ℕ → ℕ
-commandByte p k = cond (eqb k 0) 0xCC (cond (eqb k 1) 0xA5 (cond (eqb k 2) (addressLow (32 * p)) (addressHigh (32 * p))))
+unfoldable pub command_byte : ℕ → ℕ → ℕ
+command_byte p k = cond (eqb k 0) 0xCC (cond (eqb k 1) 0xA5 (cond (eqb k 2) (address_low (32 * p)) (address_high (32 * p))))
 
-unfoldable pub commandBit : ℕ → ℕ → Bool
-commandBit p i = bit_at (commandByte p (i / 8)) (i % 8)
+unfoldable pub command_bit : ℕ → ℕ → Bool
+command_bit p i = bit_at (command_byte p (i / 8)) (i % 8)
 
 -- ---- what a reply does
 
 -- the register of sixteen bits that collects what is received: the newest bit on top
-abbrev pub wordShiftIn : ℕ → Bool → ℕ
-wordShiftIn v bit = v / 2 + 32768 * one bit
+abbrev pub word_shift_in : ℕ → Bool → ℕ
+word_shift_in v bit = v / 2 + 32768 * one bit
 
-abbrev pub pageWith : PageRead → Phase → PageRead
-pageWith s phase = record { phase = phase; page = s.page; hops = s.hops; bytes = s.bytes }
+abbrev pub page_with : PageRead → Phase → PageRead
+page_with s phase = record { phase = phase; page = s.page; hops = s.hops; bytes = s.bytes }
 
-abbrev pub pageStopped : PageRead → PageStop → PageRead
-pageStopped s cause = pageWith s (Stopped cause)
+abbrev pub page_stopped : PageRead → PageStop → PageRead
+page_stopped s cause = page_with s (Stopped cause)
 
 -- the reply to a reset: 13 where no chip is there
-unfoldable pub pagePresence : PageRead → Bool → PageRead
-pagePresence s true = pageStopped s NoPresence
-pagePresence s false = pageWith s (Command 0)
+unfoldable pub page_presence : PageRead → Bool → PageRead
+page_presence s true = page_stopped s NoPresence
+page_presence s false = page_with s (Command 0)
 
-unfoldable pub afterExtendedRead : ℕ → Phase
-afterExtendedRead i = cond (ltb i 31) (Command (i + 1)) (Receive Redirection 8 0)
+unfoldable pub after_extended_read : ℕ → Phase
+after_extended_read i = cond (ltb i 31) (Command (i + 1)) (Receive Redirection 8 0)
 
 -- on to page x; but the n-th redirection byte that is not FFh means Loop
 unfoldable pub hopped : ℕ → PageRead → ℕ → PageRead
 hopped n s x =
     cond (ltb (s.hops + 1) n)
     (record { phase = Presence; page = record { 0 = x }; hops = s.hops + 1; bytes = s.bytes })
-    (pageStopped s Loop)
+    (page_stopped s Loop)
 
 -- a byte that names a page above the last one means Outside at once
-unfoldable pub pageNamed : ℕ → PageRead → ℕ → PageRead
-pageNamed n s x = cond (isPage n x) (hopped n s x) (pageStopped s (Outside x))
+unfoldable pub page_named : ℕ → PageRead → ℕ → PageRead
+page_named n s x = cond (is_page n x) (hopped n s x) (page_stopped s (Outside x))
 
 -- a redirection byte whose CRC agreed
-unfoldable pub byteFollowed : ℕ → PageRead → ℕ → PageRead
-byteFollowed n s b = cond (eqb b 255) (pageWith s (Receive (Data 0) 8 0)) (pageNamed n s (named_by b))
+unfoldable pub byte_followed : ℕ → PageRead → ℕ → PageRead
+byte_followed n s b = cond (eqb b 255) (page_with s (Receive (Data 0) 8 0)) (page_named n s (named_by b))
 
 -- the CRC that follows the redirection byte b: of command, address and byte
-unfoldable pub redirectionJudged : ℕ → PageRead → ℕ → ℕ → PageRead
-redirectionJudged n s b v = cond (eqb v (crcSent (commandBytes s.page.0 ++ (b ∷ [])))) (byteFollowed n s b) (pageStopped s Crc16)
+unfoldable pub redirection_judged : ℕ → PageRead → ℕ → ℕ → PageRead
+redirection_judged n s b v = cond (eqb v (crc_sent (command_bytes s.page.0 ++ (b ∷ [])))) (byte_followed n s b) (page_stopped s Crc16)
 
-unfoldable pub nextData : ℕ → Phase
-nextData k = cond (ltb k 31) (Receive (Data (k + 1)) 8 0) (Receive DataCrc 16 0)
+unfoldable pub next_data : ℕ → Phase
+next_data k = cond (ltb k 31) (Receive (Data (k + 1)) 8 0) (Receive DataCrc 16 0)
 
-abbrev pub pageStored : PageRead → ℕ → ℕ → PageRead
-pageStored s k v = record { phase = nextData k; page = s.page; hops = s.hops; bytes = set s.bytes k v }
+abbrev pub page_stored : PageRead → ℕ → ℕ → PageRead
+page_stored s k v = record { phase = next_data k; page = s.page; hops = s.hops; bytes = set s.bytes k v }
 
 -- the CRC that follows a page's bytes: of these alone
-unfoldable pub dataJudged : PageRead → ℕ → PageRead
-dataJudged s v = cond (eqb v (crcSent s.bytes)) (pageWith s Closing) (pageStopped s Crc16)
+unfoldable pub data_judged : PageRead → ℕ → PageRead
+data_judged s v = cond (eqb v (crc_sent s.bytes)) (page_with s Closing) (page_stopped s Crc16)
 
 -- all bits of a part are in; those of a byte stand in the register's high half
-unfoldable pub partIn : ℕ → PageRead → Part → ℕ → PageRead
-partIn n s Redirection v = pageWith s (Receive (RedirectionCrc (record { 0 = v / 256 })) 16 0)
-partIn n s (RedirectionCrc b) v = redirectionJudged n s b.0 v
-partIn n s (Data k) v = pageStored s k (v / 256)
-partIn n s DataCrc v = dataJudged s v
+unfoldable pub part_in : ℕ → PageRead → Part → ℕ → PageRead
+part_in n s Redirection v = page_with s (Receive (RedirectionCrc (record { 0 = v / 256 })) 16 0)
+part_in n s (RedirectionCrc b) v = redirection_judged n s b.0 v
+part_in n s (Data k) v = page_stored s k (v / 256)
+part_in n s DataCrc v = data_judged s v
 
-unfoldable pub pageBitIn : ℕ → PageRead → Part → ℕ → ℕ → PageRead
-pageBitIn n s part left v = cond (ltb 1 left) (pageWith s (Receive part (left - 1) v)) (partIn n s part v)
+unfoldable pub page_bit_in : ℕ → PageRead → Part → ℕ → ℕ → PageRead
+page_bit_in n s part left v = cond (ltb 1 left) (page_with s (Receive part (left - 1) v)) (part_in n s part v)
 
 -- the reply to the closing reset
-unfoldable pub pageClosed : PageRead → Bool → PageRead
-pageClosed s true = pageStopped s NoPresence
-pageClosed s false = pageWith s Done
+unfoldable pub page_closed : PageRead → Bool → PageRead
+page_closed s true = page_stopped s NoPresence
+page_closed s false = page_with s Done
 
-unfoldable pub pageNextAt : ℕ → Phase → PageRead → Bool → PageRead
-pageNextAt n Begin s reply = pageWith s Presence
-pageNextAt n Presence s reply = pagePresence s reply
-pageNextAt n (Command i) s reply = pageWith s (afterExtendedRead i)
-pageNextAt n (Receive part left v) s reply = pageBitIn n s part left (wordShiftIn v reply)
-pageNextAt n Closing s reply = pageClosed s reply
-pageNextAt n Done s reply = s
-pageNextAt n (Stopped cause) s reply = s
+unfoldable pub page_next_at : ℕ → Phase → PageRead → Bool → PageRead
+page_next_at n Begin s reply = page_with s Presence
+page_next_at n Presence s reply = page_presence s reply
+page_next_at n (Command i) s reply = page_with s (after_extended_read i)
+page_next_at n (Receive part left v) s reply = page_bit_in n s part left (word_shift_in v reply)
+page_next_at n Closing s reply = page_closed s reply
+page_next_at n Done s reply = s
+page_next_at n (Stopped cause) s reply = s
 
-abbrev pub pageNext : ℕ → PageRead → Bool → PageRead
-pageNext n s reply = pageNextAt n s.phase s reply
+abbrev pub page_next : ℕ → PageRead → Bool → PageRead
+page_next n s reply = page_next_at n s.phase s reply
 
 -- ---- what is told on the way into a state
 
-unfoldable pub pagePhaseAnswer : Phase → Page → ℕ → Answer
-pagePhaseAnswer Begin page hops = Send reset
-pagePhaseAnswer Presence page hops = Send reset
-pagePhaseAnswer (Command i) page hops = Send (slot (commandBit page.0 i))
-pagePhaseAnswer (Receive part left v) page hops = Send read_slot
-pagePhaseAnswer Closing page hops = Send reset
-pagePhaseAnswer Done page hops = Final page hops
-pagePhaseAnswer (Stopped cause) page hops = Refused (pageStop cause)
+unfoldable pub page_phase_answer : Phase → Page → ℕ → Answer
+page_phase_answer Begin page hops = Send reset
+page_phase_answer Presence page hops = Send reset
+page_phase_answer (Command i) page hops = Send (slot (command_bit page.0 i))
+page_phase_answer (Receive part left v) page hops = Send read_slot
+page_phase_answer Closing page hops = Send reset
+page_phase_answer Done page hops = Final page hops
+page_phase_answer (Stopped cause) page hops = Refused (page_stop cause)
 
 -- the one call that first tells Final: after the closing reset, with presence
 abbrev pub finishes : Phase → Bool → Bool

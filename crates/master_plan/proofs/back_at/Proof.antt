@@ -2,13 +2,13 @@ use native.Mathlib.Omega.{arith}
 use lib.Bits.{mask_lt}
 use borrow.Author.Tests.{le-ltb, lt-ltb}
 use Rattle.master_plan.proofs.Shift.{place-in-byte}
-use Rattle.master_plan.specs.Code.At.{backAt}
+use Rattle.master_plan.specs.Code.At.{back_at}
 use borrow.Author.Rules.{rules}
 use Rattle.master_plan.proofs.back_at.Statement.{statement}
 use Rattle.master_plan.proofs.back_at.Tie as tie
 
 pub back-at-spec : {M : Type 1} → statement M
-unfolding backAt
+unfolding back_at
 back-at-spec =
     tie.close (tie.spec
     (λ c κs. search rules)

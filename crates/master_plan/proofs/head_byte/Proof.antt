@@ -9,20 +9,20 @@ use Rattle.base_types.specs.declared.address.Target.{Target}
 use Rattle.master_plan.specs.declared.kind.UpdateKind.{UpdateKind}
 use Rattle.master_plan.specs.Kind.{selecting}
 use Rattle.master_plan.specs.Places.{head_of}
-use Rattle.master_plan.specs.Code.At.{headByte}
+use Rattle.master_plan.specs.Code.At.{head_byte}
 use borrow.Author.Rules.{rules}
 use Rattle.master_plan.proofs.head_byte.Statement.{statement}
 use Rattle.master_plan.proofs.head_byte.Tie as tie
 
 past-selecting : (kind : UpdateKind) (target : Target) (j k : ℕ) → j - length (selecting kind.selection) ≡ k → length (selecting kind.selection) ≤ j
-    → get_or (head_of kind.mode target) k 0 ≡ headByte kind target j
-unfolding headByte
+    → get_or (head_of kind.mode target) k 0 ≡ head_byte kind target j
+unfolding head_byte
 past-selecting kind target j k e le =
     let z : j ≡ length (selecting kind.selection) + k = omega arith in
     sym (ap (λ (i : ℕ). get_or (selecting kind.selection ++ head_of kind.mode target) i 0) z ∙ get_or-append-add (selecting kind.selection) _ k 0)
 
 pub head-byte-spec : {M : Type 1} → statement M
-unfolding headByte
+unfolding head_byte
 head-byte-spec =
     tie.close (tie.spec
     (λ c κs. search rules) (λ c κs. search rules)

@@ -1,14 +1,14 @@
 use native.Mathlib.Omega.{arith}
 use mathlib.Core.Path.{◌∙◌}
 use lib.Bits.{and_mask, mask_lt}
-use Rattle.base_crc.specs.Crc.{crcBytes}
+use Rattle.base_crc.specs.Crc.{crc_bytes}
 use Rattle.master_plan.specs.Places.{address_of}
 use borrow.Author.Rules.{rules}
 use Rattle.master_plan.proofs.head_register.Statement.{statement}
 use Rattle.master_plan.proofs.head_register.Tie as tie
 
 pub head-register-spec : {M : Type 1} → statement M
-unfolding crcBytes
+unfolding crc_bytes
 head-register-spec =
     tie.close (tie.spec
     (λ c κs. search rules) (λ c κs. search rules) (λ c κs. search rules)

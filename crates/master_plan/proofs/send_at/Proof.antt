@@ -1,13 +1,13 @@
 use native.Mathlib.Omega.{arith}
 use lib.Bits.{mask_lt}
 use Rattle.master_plan.proofs.Shift.{place-in-byte}
-use Rattle.master_plan.specs.Code.At.{sendAt}
+use Rattle.master_plan.specs.Code.At.{send_at}
 use borrow.Author.Rules.{rules}
 use Rattle.master_plan.proofs.send_at.Statement.{statement}
 use Rattle.master_plan.proofs.send_at.Tie as tie
 
 pub send-at-spec : {M : Type 1} → statement M
-unfolding sendAt
+unfolding send_at
 send-at-spec =
     tie.close (tie.spec
     (λ c. omega (arith, mask_lt c.args.i 3))

@@ -1,12 +1,12 @@
 use mathlib.Core.Path.{◌∙◌, sym}
 use borrow.Author.Tests.{not-false, not-true}
-use Rattle.master_publisher.specs.Call.{callAnswer, callState}
+use Rattle.master_publisher.specs.Call.{call_answer, call_state}
 use borrow.Author.Rules.{rules}
 use Rattle.master_publisher.proofs.call.Statement.{statement}
 use Rattle.master_publisher.proofs.call.Tie as tie
 
 pub call-spec : {M : Type 1} → statement M
-unfolding callAnswer callState
+unfolding call_answer call_state
 call-spec =
     tie.close (tie.spec
     (λ c κs. search rules)

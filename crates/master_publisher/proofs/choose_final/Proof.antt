@@ -1,12 +1,12 @@
 use mathlib.Core.Path.{◌∙◌, sym}
 use borrow.Author.Tests.{not-false, not-true}
-use Rattle.master_publisher.specs.Start.{choiceFinal}
+use Rattle.master_publisher.specs.Start.{choice_final}
 use borrow.Author.Rules.{rules}
 use Rattle.master_publisher.proofs.choose_final.Statement.{statement}
 use Rattle.master_publisher.proofs.choose_final.Tie as tie
 
 pub choose-final-spec : {M : Type 1} → statement M
-unfolding choiceFinal
+unfolding choice_final
 choose-final-spec =
     tie.close (tie.spec
     (λ c κs. search rules)

@@ -1,10 +1,10 @@
-use Rattle.master_publisher.specs.Start.{choiceFree, foundChoice}
+use Rattle.master_publisher.specs.Start.{choice_free, found_choice}
 use borrow.Author.Rules.{rules}
 use Rattle.master_publisher.proofs.choose_free.Statement.{statement}
 use Rattle.master_publisher.proofs.choose_free.Tie as tie
 
 pub choose-free-spec : {M : Type 1} → statement M
-unfolding choiceFree foundChoice
+unfolding choice_free found_choice
 choose-free-spec =
     tie.close (tie.spec
     (λ c κs. search rules) (λ c. search rules) (λ c. search rules)

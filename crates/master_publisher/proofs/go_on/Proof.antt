@@ -1,11 +1,11 @@
 use borrow.Author.Tests.{le-ltb, lt-ltb}
-use Rattle.master_publisher.specs.Code.Turn.{goneOn}
+use Rattle.master_publisher.specs.Code.Turn.{gone_on}
 use borrow.Author.Rules.{rules}
 use Rattle.master_publisher.proofs.go_on.Statement.{statement}
 use Rattle.master_publisher.proofs.go_on.Tie as tie
 
 pub go-on-spec : {M : Type 1} → statement M
-unfolding goneOn
+unfolding gone_on
 go-on-spec =
     tie.close (tie.spec
     (λ c κs. search rules) (λ c κs. search rules) (λ c. search rules) (λ c κs. search rules) (λ c κs. search rules) (λ c κs. search rules)

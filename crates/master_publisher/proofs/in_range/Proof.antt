@@ -1,12 +1,12 @@
 use mathlib.Core.Path.{◌∙◌, sym}
 use borrow.Author.Tests.{not-false, not-true}
-use Rattle.master_publisher.specs.Call.{publisherInRange}
+use Rattle.master_publisher.specs.Call.{publisher_in_range}
 use borrow.Author.Rules.{rules}
 use Rattle.master_publisher.proofs.in_range.Statement.{statement}
 use Rattle.master_publisher.proofs.in_range.Tie as tie
 
 pub in-range-spec : {M : Type 1} → statement M
-unfolding publisherInRange
+unfolding publisher_in_range
 in-range-spec =
     tie.close (tie.spec
     (λ c κs. search rules)

@@ -1,11 +1,11 @@
 use mathlib.Core.Path.{◌∙◌}
-use Rattle.master_publisher.specs.Code.Turn.{judgedOf}
+use Rattle.master_publisher.specs.Code.Turn.{judged_of}
 use borrow.Author.Rules.{rules}
 use Rattle.master_publisher.proofs.judge.Statement.{statement}
 use Rattle.master_publisher.proofs.judge.Tie as tie
 
 pub judge-spec : {M : Type 1} → statement M
-unfolding judgedOf
+unfolding judged_of
 judge-spec =
     tie.close (tie.spec
     (λ c. search rules) (λ c. search rules) (λ c κs. search rules) (λ c. search rules) (λ c κs. search rules) (λ c κs. search rules) (λ c. search rules)

@@ -1,11 +1,11 @@
 use mathlib.Core.Path.{sym, ◌∙◌}
-use Rattle.master_publisher.specs.Start.{choiceState}
+use Rattle.master_publisher.specs.Start.{choice_state}
 use borrow.Author.Rules.{rules}
 use Rattle.master_publisher.proofs.start.Statement.{statement}
 use Rattle.master_publisher.proofs.start.Tie as tie
 
 pub start_spec : {M : Type 1} → statement M
-unfolding choiceState
+unfolding choice_state
 start_spec =
     tie.close (tie.spec
     (λ c κs. search rules) (λ c. search rules) (λ c κs. search rules) (λ c κs. search rules) (λ c. search rules) (λ c κs. search rules)

@@ -5,7 +5,7 @@ use Rattle.master_plan.specs.declared.Wanted.{Wanted}
 use Rattle.master_plan.specs.declared.Wanted.TheVariants.{Anything, Presence, Bit, LastCrcBit, LastBackBit}
 use Rattle.master_plan.specs.declared.Step.{Step}
 use Rattle.master_plan.specs.Kind.{total_of}
-use Rattle.master_plan.specs.Plan.{resetStep, plan_of}
+use Rattle.master_plan.specs.Plan.{reset_step, plan_of}
 use Rattle.master_publisher.specs.declared.Judged.{Judged}
 use Rattle.master_publisher.specs.declared.Judged.TheVariants.{On, Stop}
 use Rattle.master_publisher.specs.declared.PublisherStop.{PublisherStop}
@@ -15,56 +15,56 @@ use Rattle.master_publisher.specs.declared.Stage.TheVariants.{Running, Done, Sto
 use Rattle.master_publisher.specs.declared.Publisher.{Publisher}
 use Rattle.master_publisher.specs.declared.Answer.TheVariants.{Send, Published, Refused}
 use Rattle.master_publisher.specs.declared.Stepped.{Stepped}
-use Rattle.master_publisher.specs.Stop.{publisherRefusal}
+use Rattle.master_publisher.specs.Stop.{publisher_refusal}
 
 -- the plan of a state, and how many events it has
-abbrev pub planIn : Publisher → List Step
-planIn s = plan_of s.kind s.superseded.0 s.target.0 s.used s.new
+abbrev pub plan_in : Publisher → List Step
+plan_in s = plan_of s.kind s.superseded.0 s.target.0 s.used s.new
 
-abbrev pub totalIn : Publisher → ℕ
-totalIn s = total_of s.kind
+abbrev pub total_in : Publisher → ℕ
+total_in s = total_of s.kind
 
 -- ---- a reply against what it has to be
 
-unfoldable pub judgedLast : Bool → PublisherStop → Judged
-judgedLast good stop = cond good (On true) (Stop stop)
+unfoldable pub judged_last : Bool → PublisherStop → Judged
+judged_last good stop = cond good (On true) (Stop stop)
 
-unfoldable pub judgedPresence : Bool → Judged
-judgedPresence reply = cond reply (Stop NoPresence) (On true)
+unfoldable pub judged_presence : Bool → Judged
+judged_presence reply = cond reply (Stop NoPresence) (On true)
 
 -- good: the bits of the present CRC or byte have agreed so far
-unfoldable pub judgedOf : Wanted → Bool → Bool → Judged
-judgedOf Anything good reply = On true
-judgedOf Presence good reply = judgedPresence reply
-judgedOf (Bit b) good reply = On (good && same b reply)
-judgedOf (LastCrcBit b) good reply = judgedLast (good && same b reply) Crc16
-judgedOf (LastBackBit b) good reply = judgedLast (good && same b reply) ReadBack
+unfoldable pub judged_of : Wanted → Bool → Bool → Judged
+judged_of Anything good reply = On true
+judged_of Presence good reply = judged_presence reply
+judged_of (Bit b) good reply = On (good && same b reply)
+judged_of (LastCrcBit b) good reply = judged_last (good && same b reply) Crc16
+judged_of (LastBackBit b) good reply = judged_last (good && same b reply) ReadBack
 
 -- ---- a call, by a plan with so many events
 
 -- event number k of a plan, counted from 0
 unfoldable pub step_of : List Step → ℕ → Step
-step_of plan k = get_or plan k resetStep
+step_of plan k = get_or plan k reset_step
 
 -- what the reply that comes after k events has to be; the first one is not looked at
-unfoldable pub wantedOf : List Step → ℕ → Wanted
-wantedOf plan k = cond (eqb k 0) Anything (step_of plan (k - 1)).wanted
+unfoldable pub wanted_of : List Step → ℕ → Wanted
+wanted_of plan k = cond (eqb k 0) Anything (step_of plan (k - 1)).wanted
 
-abbrev pub atStage : Publisher → Stage → Publisher
-atStage s stage = record { kind = s.kind; stage = stage; superseded = s.superseded; target = s.target; used = s.used; new = s.new }
+abbrev pub at_stage : Publisher → Stage → Publisher
+at_stage s stage = record { kind = s.kind; stage = stage; superseded = s.superseded; target = s.target; used = s.used; new = s.new }
 
 -- the next event, or the end
-unfoldable pub goneOn : ℕ → List Step → Publisher → ℕ → Bool → Stepped
-goneOn total plan s k good =
+unfoldable pub gone_on : ℕ → List Step → Publisher → ℕ → Bool → Stepped
+gone_on total plan s k good =
     cond (ltb k total)
-    (record { answer = Send (step_of plan k).event; state = atStage s (Running (k + 1) good) })
-    (record { answer = Published s.superseded s.target; state = atStage s Done })
+    (record { answer = Send (step_of plan k).event; state = at_stage s (Running (k + 1) good) })
+    (record { answer = Published s.superseded s.target; state = at_stage s Done })
 
-unfoldable pub judgedTurn : ℕ → List Step → Publisher → ℕ → Judged → Stepped
-judgedTurn total plan s k (On good) = goneOn total plan s k good
-judgedTurn total plan s k (Stop stop) = record { answer = Refused (publisherRefusal stop); state = atStage s (Stopped stop) }
+unfoldable pub judged_turn : ℕ → List Step → Publisher → ℕ → Judged → Stepped
+judged_turn total plan s k (On good) = gone_on total plan s k good
+judged_turn total plan s k (Stop stop) = record { answer = Refused (publisher_refusal stop); state = at_stage s (Stopped stop) }
 
 unfoldable pub turn_of : ℕ → List Step → Publisher → Stage → Bool → Stepped
-turn_of total plan s (Running k good) reply = judgedTurn total plan s k (judgedOf (wantedOf plan k) good reply)
+turn_of total plan s (Running k good) reply = judged_turn total plan s k (judged_of (wanted_of plan k) good reply)
 turn_of total plan s Done reply = record { answer = Published s.superseded s.target; state = s }
-turn_of total plan s (Stopped stop) reply = record { answer = Refused (publisherRefusal stop); state = s }
+turn_of total plan s (Stopped stop) reply = record { answer = Refused (publisher_refusal stop); state = s }

@@ -9,8 +9,8 @@ use Rattle.chip_entries.specs.declared.event.State.{State}
 use Rattle.chip_entries.specs.Run.{Chip, line_of}
 use Rattle.chip_session_laws.specs.Session.{Bytes}
 use Rattle.master_page.specs.declared.PageRead.{PageRead}
-use Rattle.master_page.specs.PageRead.{readOutcome}
-use Rattle.master_page_laws.specs.Heard.{pageEventsFor}
+use Rattle.master_page.specs.PageRead.{read_outcome}
+use Rattle.master_page_laws.specs.Heard.{page_events_for}
 use Rattle.master_page.specs.Held.{PageHeld}
 use Rattle.master_reading.proofs.Turns.{UnderWay, turned, more, ended, below, begins-as, at_most}
 use Rattle.master_reading.proofs.join.Statement.{statement}
@@ -19,18 +19,18 @@ use Rattle.master_reading.proofs.join.Tie as tie
 abbrev held : PageRead → List ℕ → PageHeld
 held state buffer = record { state = state; buffer = buffer }
 
-abbrev chipOf : State → List ℕ → Chip
-chipOf state image = record { state = state; image = image }
+abbrev chip_of : State → List ℕ → Chip
+chip_of state image = record { state = state; image = image }
 
 abbrev invariant-loop : tie.invariant-loop
 invariant-loop image₀ page buffer₀ reader₀ chip₀ reply₀ events₀ image buffer reader chip reply events =
-    UnderWay image₀ buffer₀ page events (held reader buffer) (chipOf chip image) reply
+    UnderWay image₀ buffer₀ page events (held reader buffer) (chip_of chip image) reply
     × (length image ≡ length image₀)
     × (length buffer ≡ length buffer₀)
-    × (length (pageEventsFor 64 image₀ page) ≤ 3921)
+    × (length (page_events_for 64 image₀ page) ≤ 3921)
 
 abbrev decreases-loop : tie.decreases-loop
-decreases-loop image₀ page buffer₀ reader₀ chip₀ reply₀ events₀ image buffer reader chip reply events = length (pageEventsFor 64 image₀ page) - events
+decreases-loop image₀ page buffer₀ reader₀ chip₀ reply₀ events₀ image buffer reader chip reply events = length (page_events_for 64 image₀ page) - events
 
 loop-holds : tie.Need-loop-init invariant-loop decreases-loop
 loop-holds c =
@@ -57,7 +57,7 @@ loop-less c =
     let at = c.before.before.before.before.before.before.before.before in
     let l = at.before.before.before.before.before.before.loop in
     let call = at.before.before.before.before.call in
-    omega (arith, more _ _ _ _ _ _ _ l.invariant.0 _ (sym call.ensures.0 ∙ ap readOutcome at.answer.given.1))
+    omega (arith, more _ _ _ _ _ _ _ l.invariant.0 _ (sym call.ensures.0 ∙ ap read_outcome at.answer.given.1))
 
 loop-again : tie.Need-loop-preserved invariant-loop decreases-loop
 loop-again c =
@@ -65,8 +65,8 @@ loop-again c =
     let l = at.before.before.before.before.before.before.loop in
     let call = at.before.before.before.before.call in
     let ev = c.before.before.before.before.before.event in (
-      turned _ _ _ _ _ _ _ l.invariant.0 _ (sym call.ensures.0 ∙ ap readOutcome at.answer.given.1) _ _ _
-          (ap₂ held call.ensures.1.0 call.ensures.1.1) (ap₂ chipOf ev.ensures.1.0 ev.ensures.1.1)
+      turned _ _ _ _ _ _ _ l.invariant.0 _ (sym call.ensures.0 ∙ ap read_outcome at.answer.given.1) _ _ _
+          (ap₂ held call.ensures.1.0 call.ensures.1.1) (ap₂ chip_of ev.ensures.1.0 ev.ensures.1.1)
           (c.line-drawn.ensures ∙ ap line_of ev.ensures.0),
       ev.auto.1.1.0 ∙ l.invariant.1,
       call.auto.1.1.0 ∙ l.invariant.2,
@@ -83,7 +83,7 @@ returns : tie.Need-returns invariant-loop decreases-loop
 returns c =
     let l = c.before.before.before.before.before.before.before.loop in
     let call = c.before.before.before.before.before.call in
-    let e = ended _ _ _ _ _ _ _ l.invariant.0 _ (sym call.ensures.0 ∙ ap readOutcome c.before.answer2.given.1) refl in
+    let e = ended _ _ _ _ _ _ _ l.invariant.0 _ (sym call.ensures.0 ∙ ap read_outcome c.before.answer2.given.1) refl in
     (e.ends, (e.all, (call.ensures.1.1 ∙ e.handed, e.kept)))
 
 same-length-3 : tie.Need-same-length-3 invariant-loop decreases-loop
@@ -96,7 +96,7 @@ returns-2 : tie.Need-returns-2 invariant-loop decreases-loop
 returns-2 c =
     let l = c.before.before.before.before.before.before.before.loop in
     let call = c.before.before.before.before.before.call in
-    let e = ended _ _ _ _ _ _ _ l.invariant.0 _ (sym call.ensures.0 ∙ ap readOutcome c.before.answer3.given.1) refl in
+    let e = ended _ _ _ _ _ _ _ l.invariant.0 _ (sym call.ensures.0 ∙ ap read_outcome c.before.answer3.given.1) refl in
     (e.ends, (e.all, (call.ensures.1.1 ∙ e.handed, e.kept)))
 
 pub join-spec : {M : Type 1} → statement M

@@ -1,20 +1,20 @@
 use mathlib.Core.Path.{refl, sym, ap, ◌∙◌}
 use borrow.Author.Tests.{eqb-true}
 use borrow.Author.Rules.{rules}
-use Rattle.base_types.specs.Outcome.{judgedOutcome}
+use Rattle.base_types.specs.Outcome.{judged_outcome}
 use Rattle.master_reading.proofs.Ends.{all_hold, when-refused, when-accepted}
 use Rattle.master_reading.proofs.read.Statement.{statement}
 use Rattle.master_reading.proofs.read.Tie as tie
 
 join-requires : tie.Need-join-requires
 join-requires c κs =
-    let h = all_hold _ _ _ (sym (ap judgedOutcome c.before.before.enum_told.given.1) ∙ c.before.before.before.before.judge.ensures) in
+    let h = all_hold _ _ _ (sym (ap judged_outcome c.before.before.enum_told.given.1) ∙ c.before.before.before.before.judge.ensures) in
     (h.0, eqb-true _ _ h.1, h.2)
 
 returns : tie.Need-returns
 returns c =
     let a = c.before.before.before.before.before.before.before.before.args in
-    let is = sym (ap judgedOutcome c.before.refusal.given.1) ∙ c.before.before.before.judge.ensures in
+    let is = sym (ap judged_outcome c.before.refusal.given.1) ∙ c.before.before.before.judge.ensures in
     let e = when-refused 64 a.image.now a.page.0 a.buffer.now c.before.refusal.given.0.0 is in
     (e.0, (e.1.0, (e.1.1, refl)))
 
@@ -23,7 +23,7 @@ returns-2 c =
     let a = c.before.before.before.before.before.before.before.before.before.before.before.before.before.before.args in
     let j = c.before.before.before.before.join.ensures in
     let at = c.before.before.before.before.before.before.before in
-    let is = sym (ap judgedOutcome at.enum_told.given.1) ∙ at.before.before.judge.ensures in
+    let is = sym (ap judged_outcome at.enum_told.given.1) ∙ at.before.before.judge.ensures in
     let e = when-accepted 64 a.image.now a.page.0 a.buffer.now is in
     (j.0 ∙ e.0, (j.1.0 ∙ e.1.0, (j.1.1.0 ∙ e.1.1, j.1.1.1)))
 

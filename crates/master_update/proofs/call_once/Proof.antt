@@ -1,11 +1,11 @@
 use mathlib.Core.Path.{◌∙◌}
-use Rattle.master_update.specs.Update.{called, imageCalled}
+use Rattle.master_update.specs.Update.{called, image_called}
 use borrow.Author.Rules.{rules}
 use Rattle.master_update.proofs.call_once.Statement.{statement}
 use Rattle.master_update.proofs.call_once.Tie as tie
 
 pub call-once-spec : {M : Type 1} → statement M
-unfolding called imageCalled
+unfolding called image_called
 call-once-spec =
     tie.close (tie.spec
     (λ c κs. search rules) (λ c κs. search rules) (λ c. search rules)

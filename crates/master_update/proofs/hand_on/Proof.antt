@@ -1,10 +1,10 @@
-use Rattle.master_update.specs.Update.{handedOn, handedImage}
+use Rattle.master_update.specs.Update.{handed_on, handed_image}
 use borrow.Author.Rules.{rules}
 use Rattle.master_update.proofs.hand_on.Statement.{statement}
 use Rattle.master_update.proofs.hand_on.Tie as tie
 
 pub hand_on_spec : {M : Type 1} → statement M
-unfolding handedOn handedImage
+unfolding handed_on handed_image
 hand_on_spec =
     tie.close (tie.spec
     (λ c. search rules) (λ c κs. search rules) (λ c. search rules) (λ c. search rules) (λ c. search rules)

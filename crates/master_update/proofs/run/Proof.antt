@@ -4,13 +4,13 @@ use lib.ListN.{length}
 use borrow.Author.Rules.{rules}
 use borrow.Author.Tests.{not-true}
 use Rattle.master_update.specs.declared.Joined.{Joined}
-use Rattle.master_update.specs.Update.{called, runFor}
+use Rattle.master_update.specs.Update.{called, run_for}
 use Rattle.master_update.proofs.Runs.{run-next, run_none, run-ended}
 use Rattle.master_update.proofs.run.Statement.{statement}
 use Rattle.master_update.proofs.run.Tie as tie
 
 abbrev invariant-loop : tie.invariant-loop
-invariant-loop calls image₀ j₀ left₀ image j left = (runFor 64 left j image ≡ runFor 64 calls j₀ image₀) × (length image ≡ length image₀)
+invariant-loop calls image₀ j₀ left₀ image j left = (run_for 64 left j image ≡ run_for 64 calls j₀ image₀) × (length image ≡ length image₀)
 
 abbrev decreases-loop : tie.decreases-loop
 decreases-loop calls image₀ j₀ left₀ image j left = left
@@ -30,7 +30,7 @@ loop-again : tie.Need-loop-preserved invariant-loop decreases-loop
 loop-again c =
     let l = c.before.before.before.before.before.before.before.loop in
     let e = c.before.before.call-once.ensures in (
-      ap (λ (k : Joined). runFor 64 (l.left - 1) k c.before.before.call-once.new.1.0) e.0 ∙ ap (runFor 64 (l.left - 1) (called 64 l.j l.image)) e.1 ∙ run-next 64 l.left l.j l.image c.before.before.before.before.before.before.loop-test.true ∙ l.invariant.0,
+      ap (λ (k : Joined). run_for 64 (l.left - 1) k c.before.before.call-once.new.1.0) e.0 ∙ ap (run_for 64 (l.left - 1) (called 64 l.j l.image)) e.1 ∙ run-next 64 l.left l.j l.image c.before.before.before.before.before.before.loop-test.true ∙ l.invariant.0,
       c.before.before.call-once.auto.1.0 ∙ l.invariant.1,
     )
 

@@ -1,12 +1,12 @@
 use mathlib.Core.Path.{◌∙◌, sym}
 use borrow.Author.Tests.{not-false, not-true}
-use Rattle.plug_chip_calls.specs.Chip.{powerAnswer, powerState}
+use Rattle.plug_chip_calls.specs.Chip.{power_answer, power_state}
 use borrow.Author.Rules.{rules}
 use Rattle.plug_chip_calls.proofs.power_up.Statement.{statement}
 use Rattle.plug_chip_calls.proofs.power_up.Tie as tie
 
 pub power-up-spec : {M : Type 1} → statement M
-unfolding powerAnswer powerState
+unfolding power_answer power_state
 power-up-spec =
     tie.close (tie.spec
     (λ c κs. search rules)

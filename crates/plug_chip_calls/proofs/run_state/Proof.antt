@@ -1,12 +1,12 @@
 use mathlib.Core.Path.{◌∙◌}
-use Rattle.chip_entries.specs.Run.{ranChip, ranReplies, runAnswer}
-use Rattle.plug_chip_calls.specs.Chip.{chipLeft}
+use Rattle.chip_entries.specs.Run.{ran_chip, ran_replies, run_answer}
+use Rattle.plug_chip_calls.specs.Chip.{chip_left}
 use borrow.Author.Rules.{rules}
 use Rattle.plug_chip_calls.proofs.run_state.Statement.{statement}
 use Rattle.plug_chip_calls.proofs.run_state.Tie as tie
 
 pub run-state-spec : {M : Type 1} → statement M
-unfolding ranChip ranReplies runAnswer chipLeft
+unfolding ran_chip ran_replies run_answer chip_left
 run-state-spec =
     tie.close (tie.spec
     (λ c κs. search rules) (λ c κs. search rules) (λ c. search rules) (λ c. search rules) (λ c. search rules)

@@ -1,11 +1,11 @@
-use Rattle.plug_fields.specs.Fields.{bufferAfter, bufferOutcome}
+use Rattle.plug_fields.specs.Fields.{buffer_after, buffer_outcome}
 use borrow.Author.Tests.{eq-eqb, ne_eqb}
 use borrow.Author.Rules.{rules}
 use Rattle.plug_fields.proofs.put.Statement.{statement}
 use Rattle.plug_fields.proofs.put.Tie as tie
 
 pub put_spec : {M : Type 1} → statement M
-unfolding bufferAfter bufferOutcome
+unfolding buffer_after buffer_outcome
 put_spec =
     tie.close (tie.spec
     (λ c. search rules)

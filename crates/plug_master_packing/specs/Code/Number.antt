@@ -1,7 +1,7 @@
 -- The bytes from a place of a number read's state to the end of the enum's are those of what stands there.
 use Rattle.std.specs.Prelude.{List, Bool, ℕ}
 use Rattle.plug_fields.specs.Fields.{padded, same}
-use Rattle.plug_master_packing.specs.Number.{phaseBytes, phaseOf}
+use Rattle.plug_master_packing.specs.Number.{phase_bytes, phase_of}
 
-unfoldable pub phaseOwn : List ℕ → Bool
-phaseOwn b = same 0 (padded 8 (phaseBytes (phaseOf b))) b
+unfoldable pub phase_own : List ℕ → Bool
+phase_own b = same 0 (padded 8 (phase_bytes (phase_of b))) b

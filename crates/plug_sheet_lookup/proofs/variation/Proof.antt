@@ -6,14 +6,14 @@ use mir.Syntax.{w32}
 use mir.ValLaws.{to_z-of_z}
 use borrow.Author.Rules.{rules}
 use Rattle.base_types.specs.Outcome.{accepted}
-use Rattle.plug_lookup.specs.Lookup.{and_then, lookupAnswer}
+use Rattle.plug_lookup.specs.Lookup.{and_then, lookup_answer}
 use Rattle.plug_sheet.proofs.Sheets.{accepted-sheet, refused-sheet}
-use Rattle.plug_sheet_lookup.specs.Lookup.{sheetValue}
+use Rattle.plug_sheet_lookup.specs.Lookup.{sheet_value}
 use Rattle.plug_sheet_lookup.proofs.variation.Statement.{statement}
 use Rattle.plug_sheet_lookup.proofs.variation.Tie as tie
 
 pub variation-spec : {M : Type 1} → statement M
-unfolding sheetValue
+unfolding sheet_value
 variation-spec =
     tie.close (tie.spec
     (λ c κs. search rules) (λ c. search rules) (λ c. search rules) (λ c κs. search rules) (λ c κs. search rules)
@@ -22,5 +22,5 @@ variation-spec =
     (λ c. let s = c.before.before.before.before.before.before in
     let whole = accepted-sheet 64 s.args.sheet.now c.before.before.before.before.judge.result c.before.before.enum_told.given.1 c.before.before.before.before.judge.ensures in
     c.at.ensures
-    ∙ ap₂ (λ (img : List ℕ) (v : ℤ). lookupAnswer 64 img v s.args.column) c.before.image.ensures (to_z-of_z w32 s.args.latitude s.ranges.latitude)
+    ∙ ap₂ (λ (img : List ℕ) (v : ℤ). lookup_answer 64 img v s.args.column) c.before.image.ensures (to_z-of_z w32 s.args.latitude s.ranges.latitude)
     ∙ simp whole))

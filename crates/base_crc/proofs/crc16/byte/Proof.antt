@@ -3,8 +3,8 @@ use mathlib.Core.Path.{ap₂, ◌∙◌}
 use mathlib.Core.List.{List}
 use Prim.Native.Nat.{ℕ}
 use borrow.Author.Rules.{rules}
-use Rattle.base_crc.specs.Polynomial.{crc16Polynomial}
-use Rattle.base_crc.specs.Table.{stepByNibbles}
+use Rattle.base_crc.specs.Polynomial.{crc16_polynomial}
+use Rattle.base_crc.specs.Table.{step_by_nibbles}
 use Rattle.base_crc.proofs.Table.{table-laws}
 use Rattle.base_crc.proofs.crc16.byte.Statement.{statement}
 use Rattle.base_crc.proofs.crc16.byte.Tie as tie
@@ -16,5 +16,5 @@ byte-spec =
     (λ c. let at = c.before.before.before in
     let args = at.before.before.args in
     c.step-by-nibbles.ensures
-    ∙ ap₂ (λ (l h : List ℕ). stepByNibbles l h args.reg args.byte) at.before.low-nibbles.ensures at.high-nibbles.ensures
-    ∙ (table-laws crc16Polynomial).nibbles args.reg args.byte))
+    ∙ ap₂ (λ (l h : List ℕ). step_by_nibbles l h args.reg args.byte) at.before.low-nibbles.ensures at.high-nibbles.ensures
+    ∙ (table-laws crc16_polynomial).nibbles args.reg args.byte))

@@ -5,12 +5,12 @@ use native.Mathlib.Omega.{arith}
 use borrow.Author.Rules.{rules}
 use lib.Bits.{bit_xor, and_mask, mask_lt}
 use lib.ListN.{get_or}
-use Rattle.base_crc.specs.Table.{stepByNibbles}
+use Rattle.base_crc.specs.Table.{step_by_nibbles}
 use Rattle.base_crc.proofs.crc16.step_by_nibbles.Statement.{statement}
 use Rattle.base_crc.proofs.crc16.step_by_nibbles.Tie as tie
 
 pub step-by-nibbles-spec : {M : Type 1} → statement M
-unfolding stepByNibbles
+unfolding step_by_nibbles
 step-by-nibbles-spec =
     tie.close (tie.spec
     (λ c κs. search rules)

@@ -1,11 +1,11 @@
 use mathlib.Core.Path.{◌∙◌}
-use Rattle.chip_entries.specs.Event.{imageAfter, stageAfter}
+use Rattle.chip_entries.specs.Event.{image_after, stage_after}
 use borrow.Author.Rules.{rules}
 use Rattle.chip_entries.proofs.event.advance.Statement.{statement}
 use Rattle.chip_entries.proofs.event.advance.Tie as tie
 
 pub advance-spec : {M : Type 1} → statement M
-unfolding imageAfter stageAfter
+unfolding image_after stage_after
 advance-spec =
     tie.close (tie.spec
     (λ c. search rules) (λ c. search rules) (λ c κs. search rules) (λ c. search rules) (λ c κs. search rules) (λ c. search rules)

@@ -2,7 +2,7 @@ use Prim.Native.Nat.{◌-◌, ◌≤◌}
 use mathlib.Core.Path.{◌≡◌, refl, sym, ◌∙◌}
 use native.Mathlib.Omega.{arith}
 use lib.ListN.{length, drop}
-use Rattle.chip_entries.specs.Run.{areEvents}
+use Rattle.chip_entries.specs.Run.{are_events}
 use Rattle.chip_entries.proofs.Runs.{events-next, events-not, events-end}
 use borrow.Author.Rules.{rules}
 use borrow.Author.Tests.{not-true, not-false}
@@ -10,7 +10,7 @@ use Rattle.chip_entries.proofs.event.are_events.Statement.{statement}
 use Rattle.chip_entries.proofs.event.are_events.Tie as tie
 
 abbrev invariant-loop : tie.invariant-loop
-invariant-loop codes i₀ i-end i = (i ≤ length codes) × (i-end ≡ length codes) × (areEvents (drop i codes) ≡ areEvents codes)
+invariant-loop codes i₀ i-end i = (i ≤ length codes) × (i-end ≡ length codes) × (are_events (drop i codes) ≡ are_events codes)
 
 abbrev decreases-loop : tie.decreases-loop
 decreases-loop codes i₀ i-end i = i-end - i

@@ -1,10 +1,10 @@
-use Rattle.chip_entries.specs.Event.{stageBit}
+use Rattle.chip_entries.specs.Event.{stage_bit}
 use borrow.Author.Rules.{rules}
 use Rattle.chip_entries.proofs.event.chip_bit.Statement.{statement}
 use Rattle.chip_entries.proofs.event.chip_bit.Tie as tie
 
 pub chip-bit-spec : {M : Type 1} → statement M
-unfolding stageBit
+unfolding stage_bit
 chip-bit-spec =
     tie.close (tie.spec
     (λ c. search rules) (λ c κs. search rules) (λ c. search rules) (λ c κs. search rules)

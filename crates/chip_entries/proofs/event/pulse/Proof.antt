@@ -1,10 +1,10 @@
-use Rattle.chip_entries.specs.Event.{pulseImageOf, stagePulse}
+use Rattle.chip_entries.specs.Event.{pulse_image_of, stage_pulse}
 use borrow.Author.Rules.{rules}
 use Rattle.chip_entries.proofs.event.pulse.Statement.{statement}
 use Rattle.chip_entries.proofs.event.pulse.Tie as tie
 
 pub pulse-spec : {M : Type 1} → statement M
-unfolding pulseImageOf stagePulse
+unfolding pulse_image_of stage_pulse
 pulse-spec =
     tie.close (tie.spec
     (λ c. search rules) (λ c. search rules) (λ c κs. search rules)

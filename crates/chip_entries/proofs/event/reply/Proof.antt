@@ -1,11 +1,11 @@
 use mathlib.Core.Path.{◌∙◌}
-use Rattle.chip_entries.specs.Event.{replyOf}
+use Rattle.chip_entries.specs.Event.{reply_of}
 use borrow.Author.Rules.{rules}
 use Rattle.chip_entries.proofs.event.reply.Statement.{statement}
 use Rattle.chip_entries.proofs.event.reply.Tie as tie
 
 pub reply-spec : {M : Type 1} → statement M
-unfolding replyOf
+unfolding reply_of
 reply-spec =
     tie.close (tie.spec
     (λ c. search rules) (λ c. search rules) (λ c κs. search rules) (λ c κs. search rules) (λ c. search rules) (λ c. search rules)

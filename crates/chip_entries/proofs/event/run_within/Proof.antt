@@ -3,11 +3,11 @@ use mathlib.Core.Path.{◌≡◌, refl, sym, ap, ◌∙◌}
 use mathlib.Core.Bool.{true}
 use native.Mathlib.Omega.{arith}
 use lib.ListN.{length, set, length-set}
-use Rattle.chip_memory.specs.Layout.{isImage}
+use Rattle.chip_memory.specs.Layout.{is_image}
 use Rattle.base_types.specs.Bits.{one}
 use Rattle.bus_events.specs.declared.Event.{Event}
-use Rattle.chip_entries.specs.Event.{chipInRange, replyOf, imageAfter, stageAfter}
-use Rattle.chip_entries.specs.Run.{chipWith}
+use Rattle.chip_entries.specs.Event.{chip_in_range, reply_of, image_after, stage_after}
+use Rattle.chip_entries.specs.Run.{chip_with}
 use Rattle.chip_entries.proofs.Runs.{Midway, midway, arrived}
 use borrow.Author.Rules.{rules}
 use Rattle.chip_entries.proofs.event.run_within.Statement.{statement}
@@ -19,7 +19,7 @@ invariant-loop number codes image₀ replies₀ stage₀ i₀ image replies stag
     × (length image ≡ length image₀)
     × (length replies ≡ length replies₀)
     × (length replies ≡ length codes)
-    × Midway 64 (chipWith stage₀ number image₀) codes i (chipWith stage number image) replies
+    × Midway 64 (chip_with stage₀ number image₀) codes i (chip_with stage number image) replies
 
 abbrev decreases-loop : tie.decreases-loop
 decreases-loop number codes image₀ replies₀ stage₀ i₀ image replies stage i = length codes - i
@@ -45,10 +45,10 @@ loop-again c =
       length-set l.replies l.i _ ∙ l.invariant.3,
       midway 64 refl _ args.codes.now l.replies l.i l.stage args.number l.image taken (omega (arith, l.invariant.3)) l.invariant.4
           _ _ _
-          (advanced.0 ∙ ap (λ (x : Event). imageAfter 64 l.stage x l.image) e)
-          (advanced.1 ∙ ap (λ (x : Event). stageAfter 64 l.stage x args.number c.before.before.advance.new.1.1.1.1.0) e)
+          (advanced.0 ∙ ap (λ (x : Event). image_after 64 l.stage x l.image) e)
+          (advanced.1 ∙ ap (λ (x : Event). stage_after 64 l.stage x args.number c.before.before.advance.new.1.1.1.1.0) e)
           (c.before.before.before.before.byte.ensures
-          ∙ ap one (c.before.before.before.before.before.reply.ensures ∙ ap (λ (x : Event). replyOf l.stage x args.number) e)),
+          ∙ ap one (c.before.before.before.before.before.reply.ensures ∙ ap (λ (x : Event). reply_of l.stage x args.number) e)),
     )
 
 same_length : tie.Need-same-length invariant-loop decreases-loop

@@ -1,11 +1,11 @@
 use mathlib.Core.Path.{◌∙◌}
-use Rattle.chip_entries.specs.Event.{stageSlot}
+use Rattle.chip_entries.specs.Event.{stage_slot}
 use borrow.Author.Rules.{rules}
 use Rattle.chip_entries.proofs.event.slot.Statement.{statement}
 use Rattle.chip_entries.proofs.event.slot.Tie as tie
 
 pub slot-spec : {M : Type 1} → statement M
-unfolding stageSlot
+unfolding stage_slot
 slot-spec =
     tie.close (tie.spec
     (λ c. search rules) (λ c κs. search rules) (λ c κs. search rules) (λ c. search rules) (λ c κs. search rules)

@@ -6,19 +6,19 @@ use Rattle.base_types.specs.declared.write_mode.WriteMode.{WriteMode}
 use Rattle.base_types.specs.declared.write_mode.WriteMode.TheVariants.{Ordinary, Quick}
 use Rattle.chip_memory.specs.Write.{programmed}
 use Rattle.chip_stage.specs.declared.stage.MemoryStage.TheVariants.{Armed}
-use Rattle.chip_function.specs.Functions.{pulseImage, pulseStage}
+use Rattle.chip_function.specs.Functions.{pulse_image, pulse_stage}
 use borrow.Author.Rules.{rules}
 use Rattle.chip_function.proofs.function.pulse.Statement.{statement}
 use Rattle.chip_function.proofs.function.pulse.Tie as tie
 
 -- a pulse on an armed chip programs the byte, in each mode
-programs : (n : ℕ) (mode : WriteMode) (t : Target) (byte : ℕ) (img : List ℕ) → pulseImage n (Armed mode t byte) img ≡ programmed n img t byte
-unfolding pulseImage
+programs : (n : ℕ) (mode : WriteMode) (t : Target) (byte : ℕ) (img : List ℕ) → pulse_image n (Armed mode t byte) img ≡ programmed n img t byte
+unfolding pulse_image
 programs n Ordinary t byte img = refl
 programs n Quick t byte img = refl
 
 pub pulse-spec : {M : Type 1} → statement M
-unfolding pulseImage pulseStage
+unfolding pulse_image pulse_stage
 pulse-spec =
     tie.close (tie.spec
     (λ c. search rules) (λ c. search rules) (λ c. search rules) (λ c. search rules) (λ c κs. search rules)

@@ -1,11 +1,11 @@
 use borrow.Author.Tests.{le-ltb, lt-ltb}
-use Rattle.chip_function.specs.Ranges.{sendInRange}
+use Rattle.chip_function.specs.Ranges.{send_in_range}
 use borrow.Author.Rules.{rules}
 use Rattle.chip_function.proofs.ranges.send_in_range.Statement.{statement}
 use Rattle.chip_function.proofs.ranges.send_in_range.Tie as tie
 
 pub send-in-range-spec : {M : Type 1} → statement M
-unfolding sendInRange
+unfolding send_in_range
 send-in-range-spec =
     tie.close (tie.spec
     (λ c. simp (lt-ltb _ _ c.if1.taken)) (λ c κs. search rules)

@@ -1,11 +1,11 @@
 use borrow.Author.Tests.{ne_eqb}
-use Rattle.chip_function.specs.Functions.{memoryCommand}
+use Rattle.chip_function.specs.Functions.{memory_command}
 use borrow.Author.Rules.{rules}
 use Rattle.chip_function.proofs.receive.command.Statement.{statement}
 use Rattle.chip_function.proofs.receive.command.Tie as tie
 
 pub command-spec : {M : Type 1} → statement M
-unfolding memoryCommand
+unfolding memory_command
 command-spec =
     tie.close (tie.spec
     (λ c κs. search rules) (λ c κs. search rules) (λ c κs. search rules) (λ c κs. search rules) (λ c κs. search rules) (λ c κs. search rules)

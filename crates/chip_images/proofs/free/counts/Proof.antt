@@ -1,12 +1,12 @@
 use mathlib.Core.Path.{◌∙◌, sym}
 use borrow.Author.Tests.{not-false, not-true}
-use Rattle.chip_images.specs.Free.{countsAnswer}
+use Rattle.chip_images.specs.Free.{counts_answer}
 use borrow.Author.Rules.{rules}
 use Rattle.chip_images.proofs.free.counts.Statement.{statement}
 use Rattle.chip_images.proofs.free.counts.Tie as tie
 
 pub counts-spec : {M : Type 1} → statement M
-unfolding countsAnswer
+unfolding counts_answer
 counts-spec =
     tie.close (tie.spec
     (λ c κs. search rules)

@@ -1,19 +1,19 @@
 use Prim.Native.Nat.{ℕ}
 use mathlib.Core.Path.{ap}
 use mathlib.Core.List.{List}
-use Rattle.chip_memory.specs.Image.{pageBytes}
+use Rattle.chip_memory.specs.Image.{page_bytes}
 use Rattle.chip_memory.specs.Page.{copied}
 use Rattle.chip_memory.proofs.Pages.{page-length, copied-same}
 use Rattle.chip_memory.proofs.Sizes.{image-length, page-below}
 use mathlib.Core.Path.{◌∙◌, sym}
 use borrow.Author.Tests.{eq-eqb, ne_eqb, not-false, not-true}
-use Rattle.chip_images.specs.Page.{copyAnswer, copyBuffer}
+use Rattle.chip_images.specs.Page.{copy_answer, copy_buffer}
 use borrow.Author.Rules.{rules}
 use Rattle.chip_images.proofs.page.copy.Statement.{statement}
 use Rattle.chip_images.proofs.page.copy.Tie as tie
 
 pub copy_spec : {M : Type 1} → statement M
-unfolding copyAnswer copyBuffer
+unfolding copy_answer copy_buffer
 copy_spec =
     tie.close (tie.spec
     (λ c κs. search rules)
@@ -51,6 +51,6 @@ copy_spec =
     let a = c.before.before.before.before.before.before.before.before.before.before.before.before.args in
     let long = page-length 64 a.image.now a.page.0 (image-length 64 _ i) (page-below 64 _ p) in
     let same = c.before.before.copy.ensures ∙ ap (λ (l : List ℕ). copied l a.buffer.now) c.before.before.before.before.part.ensures ∙
-    copied-same (pageBytes a.image.now a.page.0) a.buffer.now (long ∙ sym c.before.before.before.before.before.before.before.if2.false) in
+    copied-same (page_bytes a.image.now a.page.0) a.buffer.now (long ∙ sym c.before.before.before.before.before.before.before.if2.false) in
     let b = eq-eqb _ _ c.before.before.before.before.before.before.before.if2.false in
     (simp (i, b, p), simp (i, b, p) same)))

@@ -1,12 +1,12 @@
 use mathlib.Core.Path.{◌∙◌, sym}
 use borrow.Author.Tests.{not-false, not-true}
-use Rattle.chip_images.specs.Page.{pageAnswer}
+use Rattle.chip_images.specs.Page.{page_answer}
 use borrow.Author.Rules.{rules}
 use Rattle.chip_images.proofs.page.judge.Statement.{statement}
 use Rattle.chip_images.proofs.page.judge.Tie as tie
 
 pub judge-spec : {M : Type 1} → statement M
-unfolding pageAnswer
+unfolding page_answer
 judge-spec =
     tie.close (tie.spec
     (λ c κs. search rules)

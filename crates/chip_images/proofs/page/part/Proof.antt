@@ -1,10 +1,10 @@
-use Rattle.chip_images.specs.Page.{pagePart}
+use Rattle.chip_images.specs.Page.{page_part}
 use borrow.Author.Rules.{rules}
 use Rattle.chip_images.proofs.page.part.Statement.{statement}
 use Rattle.chip_images.proofs.page.part.Tie as tie
 
 pub part-spec : {M : Type 1} → statement M
-unfolding pagePart
+unfolding page_part
 part-spec =
     tie.close (tie.spec
     (λ c κs. search rules) (λ c. search rules) (λ c. search rules) (λ c. search rules) (λ c. search rules) (λ c. search rules) (λ c κs. search rules)

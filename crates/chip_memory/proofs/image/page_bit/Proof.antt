@@ -1,13 +1,13 @@
 use native.Mathlib.Omega.{arith}
 use Rattle.chip_memory.proofs.Sizes.{first-low}
 use mathlib.Core.Path.{◌∙◌}
-use Rattle.chip_memory.specs.Image.{pageBit}
+use Rattle.chip_memory.specs.Image.{page_bit}
 use borrow.Author.Rules.{rules}
 use Rattle.chip_memory.proofs.image.page_bit.Statement.{statement}
 use Rattle.chip_memory.proofs.image.page_bit.Tie as tie
 
 pub page-bit-spec : {M : Type 1} → statement M
-unfolding pageBit
+unfolding page_bit
 page-bit-spec =
     tie.close (tie.spec
     (λ c κs. search rules) (λ c. search rules)

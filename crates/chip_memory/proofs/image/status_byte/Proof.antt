@@ -1,11 +1,11 @@
 use mathlib.Core.Path.{◌∙◌, sym}
-use Rattle.chip_memory.specs.Image.{statusByte}
+use Rattle.chip_memory.specs.Image.{status_byte}
 use borrow.Author.Rules.{rules}
 use Rattle.chip_memory.proofs.image.status_byte.Statement.{statement}
 use Rattle.chip_memory.proofs.image.status_byte.Tie as tie
 
 pub status-byte-spec : {M : Type 1} → statement M
-unfolding statusByte
+unfolding status_byte
 status-byte-spec =
     tie.close (tie.spec
     (λ c κs. search rules) (λ c κs. search rules) (λ c κs. search rules)

@@ -2,14 +2,14 @@ use Prim.Native.Nat.{◌-◌, ◌≤◌}
 use mathlib.Core.Path.{◌≡◌, refl, ◌∙◌}
 use native.Mathlib.Omega.{arith}
 use lib.ListN.{length, drop}
-use Rattle.chip_memory.specs.Page.{isBlank}
+use Rattle.chip_memory.specs.Page.{is_blank}
 use Rattle.chip_memory.proofs.Pages.{blank-next, blank-not, blank-end}
 use borrow.Author.Rules.{rules}
 use Rattle.chip_memory.proofs.page.is_blank.Statement.{statement}
 use Rattle.chip_memory.proofs.page.is_blank.Tie as tie
 
 abbrev invariant-loop : tie.invariant-loop
-invariant-loop page i₀ i-end i = (i ≤ length page) × (i-end ≡ length page) × (isBlank (drop i page) ≡ isBlank page)
+invariant-loop page i₀ i-end i = (i ≤ length page) × (i-end ≡ length page) × (is_blank (drop i page) ≡ is_blank page)
 
 abbrev decreases-loop : tie.decreases-loop
 decreases-loop page i₀ i-end i = i-end - i

@@ -3,7 +3,7 @@ use native.Mathlib.Numerals.{add-one-le}
 use native.Mathlib.Omega.{arith}
 use mathlib.Core.Path.{◌≡◌, ap, ◌∙◌}
 use Prim.Native.Nat.{◌+◌, ◌<◌, ◌%◌}
-use Rattle.chip_memory.specs.Image.{pageBit}
+use Rattle.chip_memory.specs.Image.{page_bit}
 use Rattle.chip_memory.specs.Write.{bit_of}
 use borrow.Author.Rules.{rules}
 use Rattle.chip_memory.proofs.write.bit_of.Statement.{statement}
@@ -19,4 +19,4 @@ bit-of-spec =
     (λ c. let args = c.before.before.before.before.args in
     let small : args.p < args.last.0 + 1 = omega arith in
     let same : args.p % 256 ≡ args.p = omega arith in
-    simp (lt-ltb _ _ small) (c.page-bit.ensures ∙ ap (pageBit (args.last.0 + 1) args.field args.image.now) same)))
+    simp (lt-ltb _ _ small) (c.page-bit.ensures ∙ ap (page_bit (args.last.0 + 1) args.field args.image.now) same)))

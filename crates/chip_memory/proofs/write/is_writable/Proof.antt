@@ -1,10 +1,10 @@
-use Rattle.chip_memory.specs.Write.{isWritable}
+use Rattle.chip_memory.specs.Write.{is_writable}
 use borrow.Author.Rules.{rules}
 use Rattle.chip_memory.proofs.write.is_writable.Statement.{statement}
 use Rattle.chip_memory.proofs.write.is_writable.Tie as tie
 
 pub is-writable-spec : {M : Type 1} → statement M
-unfolding isWritable
+unfolding is_writable
 is-writable-spec =
     tie.close (tie.spec
     (λ c. search rules) (λ c κs. search rules) (λ c. search rules) (λ c κs. search rules)

@@ -1,11 +1,11 @@
 use borrow.Author.Tests.{le-ltb, lt-ltb}
-use Rattle.chip_memory.specs.Write.{statusWritable}
+use Rattle.chip_memory.specs.Write.{status_writable}
 use borrow.Author.Rules.{rules}
 use Rattle.chip_memory.proofs.write.status_writable.Statement.{statement}
 use Rattle.chip_memory.proofs.write.status_writable.Tie as tie
 
 pub status-writable-spec : {M : Type 1} → statement M
-unfolding statusWritable
+unfolding status_writable
 status-writable-spec =
     tie.close (tie.spec
     (λ c κs. search rules)

@@ -1,10 +1,10 @@
-use Rattle.chip_stage.specs.Limits.{limitOf}
+use Rattle.chip_stage.specs.Limits.{limit_of}
 use borrow.Author.Rules.{rules}
 use Rattle.chip_stage.proofs.limits.limit.Statement.{statement}
 use Rattle.chip_stage.proofs.limits.limit.Tie as tie
 
 pub limit-spec : {M : Type 1} → statement M
-unfolding limitOf
+unfolding limit_of
 limit-spec =
     tie.close (tie.spec
     (λ c. search rules) (λ c κs. search rules) (λ c. search rules) (λ c κs. search rules) (λ c. search rules)

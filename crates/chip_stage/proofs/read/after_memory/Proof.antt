@@ -1,11 +1,11 @@
 use borrow.Author.Tests.{le-ltb, lt-ltb}
-use Rattle.chip_stage.specs.Reads.{afterMemory}
+use Rattle.chip_stage.specs.Reads.{after_memory}
 use borrow.Author.Rules.{rules}
 use Rattle.chip_stage.proofs.read.after_memory.Statement.{statement}
 use Rattle.chip_stage.proofs.read.after_memory.Tie as tie
 
 pub after-memory-spec : {M : Type 1} → statement M
-unfolding afterMemory
+unfolding after_memory
 after-memory-spec =
     tie.close (tie.spec
     (λ c. search rules) (λ c. search rules) (λ c κs. search rules) (λ c. search rules) (λ c κs. search rules) (λ c κs. search rules)

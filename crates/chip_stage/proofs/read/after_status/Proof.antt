@@ -1,11 +1,11 @@
 use borrow.Author.Tests.{le-ltb, lt-ltb}
-use Rattle.chip_stage.specs.Reads.{afterStatus}
+use Rattle.chip_stage.specs.Reads.{after_status}
 use borrow.Author.Rules.{rules}
 use Rattle.chip_stage.proofs.read.after_status.Statement.{statement}
 use Rattle.chip_stage.proofs.read.after_status.Tie as tie
 
 pub after-status-spec : {M : Type 1} → statement M
-unfolding afterStatus
+unfolding after_status
 after-status-spec =
     tie.close (tie.spec
     (λ c. search rules) (λ c κs. search rules) (λ c κs. search rules)

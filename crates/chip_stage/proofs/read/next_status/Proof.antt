@@ -1,11 +1,11 @@
 use borrow.Author.Tests.{le-ltb, lt-ltb}
-use Rattle.chip_stage.specs.Reads.{nextStatus}
+use Rattle.chip_stage.specs.Reads.{next_status}
 use borrow.Author.Rules.{rules}
 use Rattle.chip_stage.proofs.read.next_status.Statement.{statement}
 use Rattle.chip_stage.proofs.read.next_status.Tie as tie
 
 pub next-status-spec : {M : Type 1} → statement M
-unfolding nextStatus
+unfolding next_status
 next-status-spec =
     tie.close (tie.spec
     (λ c. search rules) (λ c. search rules) (λ c κs. search rules) (λ c. search rules) (λ c. search rules) (λ c κs. search rules)

@@ -1,13 +1,13 @@
 use mathlib.Core.Path.{◌∙◌, sym}
-use Rattle.chip_stage.specs.Reads.{startExtended}
+use Rattle.chip_stage.specs.Reads.{start_extended}
 use borrow.Author.Rules.{rules}
 use Rattle.chip_stage.proofs.read.start_extended.Statement.{statement}
 use Rattle.chip_stage.proofs.read.start_extended.Tie as tie
 
 pub start-extended-spec : {M : Type 1} → statement M
-unfolding startExtended
+unfolding start_extended
 start-extended-spec =
     tie.close (tie.spec
     (λ c κs. search rules) (λ c κs. search rules)
-    (λ c. simp (sym c.before.before.is_Address.ensures ∙ c.before.if1.true) c.redirection-from.ensures)
-    (λ c. simp (sym c.before.is_Address.ensures ∙ c.if1.false)))
+    (λ c. simp (sym c.before.before.is_address.ensures ∙ c.before.if1.true) c.redirection-from.ensures)
+    (λ c. simp (sym c.before.is_address.ensures ∙ c.if1.false)))

@@ -1,11 +1,11 @@
 use mathlib.Core.Path.{◌∙◌}
-use Rattle.chip_stage.specs.Writes.{dataIn}
+use Rattle.chip_stage.specs.Writes.{data_in}
 use borrow.Author.Rules.{rules}
 use Rattle.chip_stage.proofs.write.data_in.Statement.{statement}
 use Rattle.chip_stage.proofs.write.data_in.Tie as tie
 
 pub data-in-spec : {M : Type 1} → statement M
-unfolding dataIn
+unfolding data_in
 data-in-spec =
     tie.close (tie.spec
     (λ c. search rules) (λ c κs. search rules) (λ c κs. search rules) (λ c. search rules)

@@ -4,13 +4,13 @@ use native.Mathlib.Omega.{arith}
 use lib.ListN.{length, drop}
 use borrow.Author.Tests.{lt-ltb, le-ltb}
 use borrow.Author.Rules.{rules}
-use Rattle.master_runs.specs.Calls.{areReplies}
+use Rattle.master_runs.specs.Calls.{are_replies}
 use Rattle.master_runs.proofs.Replies.{replies-next, replies-not, replies-end}
 use Rattle.master_runs.proofs.calls.are_replies.Statement.{statement}
 use Rattle.master_runs.proofs.calls.are_replies.Tie as tie
 
 abbrev invariant-loop : tie.invariant-loop
-invariant-loop codes i₀ i-end i = (i ≤ length codes) × (areReplies (drop i codes) ≡ areReplies codes)
+invariant-loop codes i₀ i-end i = (i ≤ length codes) × (are_replies (drop i codes) ≡ are_replies codes)
 
 abbrev decreases-loop : tie.decreases-loop
 decreases-loop codes i₀ i-end i = length codes - i

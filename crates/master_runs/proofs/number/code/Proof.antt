@@ -1,10 +1,10 @@
-use Rattle.master_runs.specs.Calls.{callCode}
+use Rattle.master_runs.specs.Calls.{call_code}
 use borrow.Author.Rules.{rules}
 use Rattle.master_runs.proofs.number.code.Statement.{statement}
 use Rattle.master_runs.proofs.number.code.Tie as tie
 
 pub code-spec : {M : Type 1} → statement M
-unfolding callCode
+unfolding call_code
 code-spec =
     tie.close (tie.spec
     (λ c. search rules) (λ c κs. search rules) (λ c. search rules) (λ c. search rules)

@@ -3,7 +3,7 @@ use mathlib.Core.Path.{◌≡◌, refl, ap, ◌∙◌}
 use native.Mathlib.Omega.{arith}
 use lib.ListN.{length, set, length-set}
 use borrow.Author.Rules.{rules}
-use Rattle.master_number.specs.NumberRead.{answerOutcome, numberState, numberAnswer}
+use Rattle.master_number.specs.NumberRead.{answer_outcome, number_state, number_answer}
 use Rattle.master_runs.proofs.Runs.{Midway, midway, arrived}
 use Rattle.master_runs.proofs.Codes.{same_code}
 use Rattle.master_runs.proofs.number.feed.Statement.{statement}
@@ -14,7 +14,7 @@ invariant-loop replies events₀ state₀ answer₀ i₀ events state answer i =
     (i ≤ length replies)
     × (length events ≡ length events₀)
     × (length events₀ ≡ length replies)
-    × Midway numberState numberAnswer state₀ replies events₀ i state (answerOutcome answer state.bytes) events
+    × Midway number_state number_answer state₀ replies events₀ i state (answer_outcome answer state.bytes) events
 
 abbrev decreases-loop : tie.decreases-loop
 decreases-loop replies events₀ state₀ answer₀ i₀ events state answer i = length replies - i
@@ -33,7 +33,7 @@ loop-again c =
       omega arith,
       length-set l.events l.i _ ∙ l.invariant.1,
       l.invariant.2,
-      midway numberState numberAnswer _ args.replies.now _ l.i l.state _ l.events (omega arith) l.invariant.3
+      midway number_state number_answer _ args.replies.now _ l.i l.state _ l.events (omega arith) l.invariant.3
           _ _ _
           called.ensures.1
           called.ensures.0
@@ -46,7 +46,7 @@ same_length c = c.before.loop.invariant.1
 returns : tie.Need-returns invariant-loop decreases-loop
 returns c =
     let at = c.before in
-    arrived numberState numberAnswer _ at.before.before.before.args.replies.now _ at.loop.i at.loop.state _ at.loop.events (omega arith) at.loop.invariant.2 at.loop.invariant.3
+    arrived number_state number_answer _ at.before.before.before.args.replies.now _ at.loop.i at.loop.state _ at.loop.events (omega arith) at.loop.invariant.2 at.loop.invariant.3
 
 pub feed-spec : {M : Type 1} → statement M
 feed-spec =

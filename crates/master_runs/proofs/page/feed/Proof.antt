@@ -3,8 +3,8 @@ use mathlib.Core.Path.{◌≡◌, refl, ap, ap₂, ◌∙◌}
 use native.Mathlib.Omega.{arith}
 use lib.ListN.{length, set, length-set}
 use borrow.Author.Rules.{rules}
-use Rattle.master_page.specs.PageRead.{readOutcome}
-use Rattle.master_page.specs.Held.{pageHeld, pageTold, pageCalled}
+use Rattle.master_page.specs.PageRead.{read_outcome}
+use Rattle.master_page.specs.Held.{page_held, page_told, page_called}
 use Rattle.master_runs.proofs.Runs.{Midway, midway, arrived}
 use Rattle.master_runs.proofs.page.feed.Statement.{statement}
 use Rattle.master_runs.proofs.page.feed.Tie as tie
@@ -15,7 +15,7 @@ invariant-loop replies events₀ buffer₀ state₀ answer₀ i₀ events buffer
     × (length events ≡ length events₀)
     × (length events₀ ≡ length replies)
     × (length buffer ≡ length buffer₀)
-    × Midway (pageCalled 64) (pageTold 64) (pageHeld state₀ buffer₀) replies events₀ i (pageHeld state buffer) (readOutcome answer) events
+    × Midway (page_called 64) (page_told 64) (page_held state₀ buffer₀) replies events₀ i (page_held state buffer) (read_outcome answer) events
 
 abbrev decreases-loop : tie.decreases-loop
 decreases-loop replies events₀ buffer₀ state₀ answer₀ i₀ events buffer state answer i = length replies - i
@@ -35,9 +35,9 @@ loop-again c =
       length-set l.events l.i _ ∙ l.invariant.1,
       l.invariant.2,
       step.auto.1.1.0 ∙ l.invariant.3,
-      midway (pageCalled 64) (pageTold 64) _ args.replies.now _ l.i (pageHeld l.state l.buffer) _ l.events (omega arith) l.invariant.4
+      midway (page_called 64) (page_told 64) _ args.replies.now _ l.i (page_held l.state l.buffer) _ l.events (omega arith) l.invariant.4
           _ _ _
-          (ap₂ pageHeld step.ensures.1.0 step.ensures.1.1)
+          (ap₂ page_held step.ensures.1.0 step.ensures.1.1)
           step.ensures.0
           (ap (λ (x : ℕ). set l.events l.i x) c.code.ensures),
     )
@@ -51,7 +51,7 @@ same-length-2 c = c.before.loop.invariant.3
 returns : tie.Need-returns invariant-loop decreases-loop
 returns c =
     let at = c.before in
-    arrived (pageCalled 64) (pageTold 64) _ at.before.before.before.before.args.replies.now _ at.loop.i _ _ at.loop.events (omega arith) at.loop.invariant.2 at.loop.invariant.4
+    arrived (page_called 64) (page_told 64) _ at.before.before.before.before.args.replies.now _ at.loop.i _ _ at.loop.events (omega arith) at.loop.invariant.2 at.loop.invariant.4
 
 pub feed-spec : {M : Type 1} → statement M
 feed-spec =

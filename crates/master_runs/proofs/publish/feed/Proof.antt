@@ -3,7 +3,7 @@ use mathlib.Core.Path.{◌≡◌, refl, ap, ◌∙◌}
 use native.Mathlib.Omega.{arith}
 use lib.ListN.{length, set, length-set}
 use borrow.Author.Rules.{rules}
-use Rattle.master_publisher.specs.Call.{turnOutcome, callAnswer, callState}
+use Rattle.master_publisher.specs.Call.{turn_outcome, call_answer, call_state}
 use Rattle.master_runs.proofs.Runs.{Midway, midway, arrived}
 use Rattle.master_runs.proofs.publish.feed.Statement.{statement}
 use Rattle.master_runs.proofs.publish.feed.Tie as tie
@@ -13,7 +13,7 @@ invariant-loop replies events₀ state₀ answer₀ i₀ events state answer i =
     (i ≤ length replies)
     × (length events ≡ length events₀)
     × (length events₀ ≡ length replies)
-    × Midway (callState 64) (callAnswer 64) state₀ replies events₀ i state (turnOutcome answer) events
+    × Midway (call_state 64) (call_answer 64) state₀ replies events₀ i state (turn_outcome answer) events
 
 abbrev decreases-loop : tie.decreases-loop
 decreases-loop replies events₀ state₀ answer₀ i₀ events state answer i = length replies - i
@@ -32,7 +32,7 @@ loop-again c =
       omega arith,
       length-set l.events l.i _ ∙ l.invariant.1,
       l.invariant.2,
-      midway (callState 64) (callAnswer 64) _ args.replies.now _ l.i l.state _ l.events (omega arith) l.invariant.3
+      midway (call_state 64) (call_answer 64) _ args.replies.now _ l.i l.state _ l.events (omega arith) l.invariant.3
           _ _ _
           called.ensures.1
           called.ensures.0
@@ -45,7 +45,7 @@ same_length c = c.before.loop.invariant.1
 returns : tie.Need-returns invariant-loop decreases-loop
 returns c =
     let at = c.before in
-    arrived (callState 64) (callAnswer 64) _ at.before.before.before.args.replies.now _ at.loop.i at.loop.state _ at.loop.events (omega arith) at.loop.invariant.2 at.loop.invariant.3
+    arrived (call_state 64) (call_answer 64) _ at.before.before.before.args.replies.now _ at.loop.i at.loop.state _ at.loop.events (omega arith) at.loop.invariant.2 at.loop.invariant.3
 
 pub feed-spec : {M : Type 1} → statement M
 feed-spec =

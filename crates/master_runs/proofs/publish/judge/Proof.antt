@@ -1,11 +1,11 @@
 use mathlib.Core.Path.{◌∙◌}
-use Rattle.master_runs.specs.Publisher.{publisherFedJudged}
+use Rattle.master_runs.specs.Publisher.{publisher_fed_judged}
 use borrow.Author.Rules.{rules}
 use Rattle.master_runs.proofs.publish.judge.Statement.{statement}
 use Rattle.master_runs.proofs.publish.judge.Tie as tie
 
 pub judge-spec : {M : Type 1} → statement M
-unfolding publisherFedJudged
+unfolding publisher_fed_judged
 judge-spec =
     tie.close (tie.spec
     (λ c κs. search rules) (λ c κs. search rules)

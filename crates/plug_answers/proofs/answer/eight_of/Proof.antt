@@ -1,10 +1,10 @@
-use Rattle.plug_answers.specs.Answers.{eightOf}
+use Rattle.plug_answers.specs.Answers.{eight_of}
 use borrow.Author.Rules.{rules}
 use Rattle.plug_answers.proofs.answer.eight_of.Statement.{statement}
 use Rattle.plug_answers.proofs.answer.eight_of.Tie as tie
 
 pub eight-of-spec : {M : Type 1} → statement M
-unfolding eightOf
+unfolding eight_of
 eight-of-spec =
     tie.close (tie.spec
     (λ c κs. search rules) (λ c κs. search rules) (λ c κs. search rules) (λ c κs. search rules) (λ c κs. search rules) (λ c κs. search rules)

@@ -1,12 +1,12 @@
 use mathlib.Core.Path.{◌∙◌}
 use borrow.Author.Tests.{not-false, not-true}
-use Rattle.plug_answers.specs.Calls.{isReply, replyJudged}
+use Rattle.plug_answers.specs.Calls.{is_reply, reply_judged}
 use borrow.Author.Rules.{rules}
 use Rattle.plug_answers.proofs.calls.judge_reply.Statement.{statement}
 use Rattle.plug_answers.proofs.calls.judge_reply.Tie as tie
 
 pub judge-reply-spec : {M : Type 1} → statement M
-unfolding replyJudged isReply
+unfolding reply_judged is_reply
 judge-reply-spec =
     tie.close (tie.spec
     (λ c κs. search rules)

@@ -1,10 +1,10 @@
-use Rattle.plug_chip_packing.specs.Chip.{targetAddress}
+use Rattle.plug_chip_packing.specs.Chip.{target_address}
 use borrow.Author.Rules.{rules}
 use Rattle.plug_chip_packing.proofs.chip_state.address_of_target.Statement.{statement}
 use Rattle.plug_chip_packing.proofs.chip_state.address_of_target.Tie as tie
 
 pub address-of-target-spec : {M : Type 1} → statement M
-unfolding targetAddress
+unfolding target_address
 address-of-target-spec =
     tie.close (tie.spec
     (λ c. search rules) (λ c. search rules)

@@ -1,10 +1,10 @@
-use Rattle.plug_chip_packing.specs.Chip.{addressedOf}
+use Rattle.plug_chip_packing.specs.Chip.{addressed_of}
 use borrow.Author.Tests.{ne_eqb}
 use Rattle.plug_chip_packing.proofs.chip_state.addressed_of.Statement.{statement}
 use Rattle.plug_chip_packing.proofs.chip_state.addressed_of.Tie as tie
 
 pub addressed-of-spec : {M : Type 1} → statement M
-unfolding addressedOf
+unfolding addressed_of
 addressed-of-spec =
     tie.close (tie.spec
     (λ c. simp c.match.keys1)

@@ -1,10 +1,10 @@
-use Rattle.plug_chip_packing.specs.Chip.{commandOf}
+use Rattle.plug_chip_packing.specs.Chip.{command_of}
 use borrow.Author.Tests.{ne_eqb}
 use Rattle.plug_chip_packing.proofs.chip_state.command_of.Statement.{statement}
 use Rattle.plug_chip_packing.proofs.chip_state.command_of.Tie as tie
 
 pub command-of-spec : {M : Type 1} → statement M
-unfolding commandOf
+unfolding command_of
 command-of-spec =
     tie.close (tie.spec
     (λ c. simp c.match.keys1) (λ c. simp c.match.keys2) (λ c. simp c.match.keys3) (λ c. simp c.match.keys4) (λ c. simp c.match.keys5)

@@ -1,10 +1,10 @@
-use Rattle.plug_chip_packing.specs.Chip.{memoryBytes}
+use Rattle.plug_chip_packing.specs.Chip.{memory_bytes}
 use borrow.Author.Rules.{rules}
 use Rattle.plug_chip_packing.proofs.chip_state.front_of_memory.Statement.{statement}
 use Rattle.plug_chip_packing.proofs.chip_state.front_of_memory.Tie as tie
 
 pub front-of-memory-spec : {M : Type 1} → statement M
-unfolding memoryBytes
+unfolding memory_bytes
 front-of-memory-spec =
     tie.close (tie.spec
     (λ c. search rules) (λ c. search rules) (λ c κs. search rules) (λ c. search rules) (λ c κs. search rules) (λ c. search rules) (λ c κs. search rules)

@@ -1,10 +1,10 @@
-use Rattle.plug_chip_packing.specs.Chip.{memoryBytes, incomingBytes}
+use Rattle.plug_chip_packing.specs.Chip.{memory_bytes, incoming_bytes}
 use borrow.Author.Rules.{rules}
 use Rattle.plug_chip_packing.proofs.chip_state.front_of_receive.Statement.{statement}
 use Rattle.plug_chip_packing.proofs.chip_state.front_of_receive.Tie as tie
 
 pub front-of-receive-spec : {M : Type 1} → statement M
-unfolding memoryBytes incomingBytes
+unfolding memory_bytes incoming_bytes
 front-of-receive-spec =
     tie.close (tie.spec
     (λ c κs. search rules) (λ c κs. search rules) (λ c. search rules) (λ c. search rules) (λ c κs. search rules) (λ c. search rules)

@@ -1,10 +1,10 @@
-use Rattle.plug_chip_packing.specs.Chip.{memoryBytes, outgoingBytes}
+use Rattle.plug_chip_packing.specs.Chip.{memory_bytes, outgoing_bytes}
 use borrow.Author.Rules.{rules}
 use Rattle.plug_chip_packing.proofs.chip_state.front_of_send.Statement.{statement}
 use Rattle.plug_chip_packing.proofs.chip_state.front_of_send.Tie as tie
 
 pub front-of-send-spec : {M : Type 1} → statement M
-unfolding memoryBytes outgoingBytes
+unfolding memory_bytes outgoing_bytes
 front-of-send-spec =
     tie.close (tie.spec
     (λ c. search rules) (λ c κs. search rules) (λ c. search rules) (λ c κs. search rules) (λ c. search rules) (λ c κs. search rules) (λ c. search rules)

@@ -1,11 +1,11 @@
 use borrow.Author.Tests.{ne_eqb}
-use Rattle.plug_chip_packing.specs.Chip.{incomingOf}
+use Rattle.plug_chip_packing.specs.Chip.{incoming_of}
 use borrow.Author.Rules.{rules}
 use Rattle.plug_chip_packing.proofs.chip_state.incoming_of.Statement.{statement}
 use Rattle.plug_chip_packing.proofs.chip_state.incoming_of.Tie as tie
 
 pub incoming-of-spec : {M : Type 1} → statement M
-unfolding incomingOf
+unfolding incoming_of
 incoming-of-spec =
     tie.close (tie.spec
     (λ c. search rules) (λ c. search rules) (λ c κs. search rules) (λ c. search rules) (λ c κs. search rules) (λ c. search rules) (λ c. search rules)

@@ -1,11 +1,11 @@
 use borrow.Author.Tests.{ne_eqb}
-use Rattle.plug_chip_packing.specs.Chip.{memoryOf}
+use Rattle.plug_chip_packing.specs.Chip.{memory_of}
 use borrow.Author.Rules.{rules}
 use Rattle.plug_chip_packing.proofs.chip_state.memory_of.Statement.{statement}
 use Rattle.plug_chip_packing.proofs.chip_state.memory_of.Tie as tie
 
 pub memory-of-spec : {M : Type 1} → statement M
-unfolding memoryOf
+unfolding memory_of
 memory-of-spec =
     tie.close (tie.spec
     (λ c. search rules) (λ c. search rules) (λ c. search rules) (λ c κs. search rules) (λ c κs. search rules) (λ c κs. search rules) (λ c κs. search rules)

@@ -1,10 +1,10 @@
-use Rattle.plug_chip_packing.specs.Chip.{writeTag}
+use Rattle.plug_chip_packing.specs.Chip.{write_tag}
 use borrow.Author.Rules.{rules}
 use Rattle.plug_chip_packing.proofs.chip_state.number_of_write.Statement.{statement}
 use Rattle.plug_chip_packing.proofs.chip_state.number_of_write.Tie as tie
 
 pub number-of-write-spec : {M : Type 1} → statement M
-unfolding writeTag
+unfolding write_tag
 number-of-write-spec =
     tie.close (tie.spec
     (λ c. search rules) (λ c. search rules) (λ c. search rules) (λ c. search rules) (λ c. search rules) (λ c. search rules)

@@ -1,11 +1,11 @@
 use borrow.Author.Tests.{ne_eqb}
-use Rattle.plug_chip_packing.specs.Chip.{outgoingOf}
+use Rattle.plug_chip_packing.specs.Chip.{outgoing_of}
 use borrow.Author.Rules.{rules}
 use Rattle.plug_chip_packing.proofs.chip_state.outgoing_of.Statement.{statement}
 use Rattle.plug_chip_packing.proofs.chip_state.outgoing_of.Tie as tie
 
 pub outgoing-of-spec : {M : Type 1} → statement M
-unfolding outgoingOf
+unfolding outgoing_of
 outgoing-of-spec =
     tie.close (tie.spec
     (λ c. search rules) (λ c κs. search rules) (λ c. search rules) (λ c. search rules) (λ c κs. search rules) (λ c κs. search rules) (λ c κs. search rules)

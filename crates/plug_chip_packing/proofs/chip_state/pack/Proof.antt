@@ -1,5 +1,5 @@
 use Rattle.plug_chip_packing.proofs.Chip.{chip-packing}
-use Rattle.plug_chip_packing.specs.Chip.{chipBytes, isChipState, chipPacked, chipBuffer}
+use Rattle.plug_chip_packing.specs.Chip.{chip_bytes, is_chip_state, chip_packed, chip_buffer}
 use lib.ListN.{length}
 use mathlib.Core.Path.{◌≡◌}
 use borrow.Author.Rules.{rules}
@@ -7,7 +7,7 @@ use Rattle.plug_chip_packing.proofs.chip_state.pack.Statement.{statement}
 use Rattle.plug_chip_packing.proofs.chip_state.pack.Tie as tie
 
 pub pack-spec : {M : Type 1} → statement M
-unfolding chipPacked chipBuffer chipBytes isChipState
+unfolding chip_packed chip_buffer chip_bytes is_chip_state
 pack-spec =
     tie.close (tie.spec
     (λ c κs. search rules) (λ c. search rules) (λ c κs. search rules) (λ c. search rules)

@@ -1,11 +1,11 @@
 use borrow.Author.Tests.{ne_eqb}
-use Rattle.plug_chip_packing.specs.Chip.{chipStageOf}
+use Rattle.plug_chip_packing.specs.Chip.{chip_stage_of}
 use borrow.Author.Rules.{rules}
 use Rattle.plug_chip_packing.proofs.chip_state.stage_of.Statement.{statement}
 use Rattle.plug_chip_packing.proofs.chip_state.stage_of.Tie as tie
 
 pub stage-of-spec : {M : Type 1} → statement M
-unfolding chipStageOf
+unfolding chip_stage_of
 stage-of-spec =
     tie.close (tie.spec
     (λ c. search rules) (λ c. search rules) (λ c. search rules) (λ c. search rules) (λ c κs. search rules) (λ c. search rules) (λ c κs. search rules)

@@ -1,6 +1,6 @@
 use Rattle.plug_chip_packing.proofs.Chip.{chip-judged, chip-held}
-use Rattle.plug_chip_packing.specs.Chip.{chipStateOf, isChipState, chipJudged}
-use Rattle.plug_fields.specs.Fields.{isCopy}
+use Rattle.plug_chip_packing.specs.Chip.{chip_state_of, is_chip_state, chip_judged}
+use Rattle.plug_fields.specs.Fields.{is_copy}
 use mathlib.Core.Path.{◌∙◌}
 use borrow.Author.Tests.{ne_eqb}
 use borrow.Author.Rules.{rules}
@@ -8,7 +8,7 @@ use Rattle.plug_chip_packing.proofs.chip_state.unpack.Statement.{statement}
 use Rattle.plug_chip_packing.proofs.chip_state.unpack.Tie as tie
 
 pub unpack-spec : {M : Type 1} → statement M
-unfolding chipJudged isChipState isCopy chipStateOf
+unfolding chip_judged is_chip_state is_copy chip_state_of
 unpack-spec =
     tie.close (tie.spec
     (λ c κs. search rules)

@@ -1,13 +1,13 @@
 use mathlib.Core.Path.{◌∙◌, sym}
 use borrow.Author.Tests.{not-false, not-true}
-use Rattle.plug_image_calls.specs.Sheet.{listText, listValues}
+use Rattle.plug_image_calls.specs.Sheet.{list_text, list_values}
 use Rattle.plug_answers.specs.Answers.{answered}
 use borrow.Author.Rules.{rules}
 use Rattle.plug_image_calls.proofs.sheet.list.Statement.{statement}
 use Rattle.plug_image_calls.proofs.sheet.list.Tie as tie
 
 pub list-spec : {M : Type 1} → statement M
-unfolding answered listText listValues
+unfolding answered list_text list_values
 list-spec =
     tie.close (tie.spec
     (λ c κs. search rules) (λ c. search rules)

@@ -1,13 +1,13 @@
 use mathlib.Core.Path.{sym, ◌∙◌}
 use borrow.Author.Tests.{not-false, not-true}
-use Rattle.plug_image_calls.specs.Sheet.{readImage, readNumber, sheetRead}
+use Rattle.plug_image_calls.specs.Sheet.{read_image, read_number, sheet_read}
 use Rattle.plug_image_calls.proofs.Sheets.{handed-on}
 use borrow.Author.Rules.{rules}
 use Rattle.plug_image_calls.proofs.sheet.read.Statement.{statement}
 use Rattle.plug_image_calls.proofs.sheet.read.Tie as tie
 
 pub read_spec : {M : Type 1} → statement M
-unfolding readImage readNumber sheetRead
+unfolding read_image read_number sheet_read
 read_spec =
     tie.close (tie.spec
     (λ c κs. search rules) (λ c. search rules)

@@ -1,13 +1,13 @@
 use mathlib.Core.Path.{sym, ◌∙◌}
-use Rattle.plug_sheet.specs.Stored.{writeBuffer}
+use Rattle.plug_sheet.specs.Stored.{write_buffer}
 use borrow.Author.Tests.{not-false, not-true}
-use Rattle.plug_image_calls.specs.Sheet.{sheetBuffer, sheetWritten}
+use Rattle.plug_image_calls.specs.Sheet.{sheet_buffer, sheet_written}
 use borrow.Author.Rules.{rules}
 use Rattle.plug_image_calls.proofs.sheet.write.Statement.{statement}
 use Rattle.plug_image_calls.proofs.sheet.write.Tie as tie
 
 pub write_spec : {M : Type 1} → statement M
-unfolding sheetBuffer sheetWritten writeBuffer
+unfolding sheet_buffer sheet_written write_buffer
 write_spec =
     tie.close (tie.spec
     (λ c κs. search rules)

@@ -7,7 +7,7 @@ use mir.Syntax.{w32}
 use mir.Val.{to_z, of_z}
 use mir.ValLaws.{to_z-of_z}
 use borrow.Author.Rules.{rules}
-use Rattle.plug_lookup.specs.Header.{rows_of, rowFrom}
+use Rattle.plug_lookup.specs.Header.{rows_of, row_from}
 use Rattle.plug_lookup.proofs.Rows.{row-found, row-goes-on, row-over}
 use Rattle.plug_lookup.proofs.header.find_row.Statement.{statement}
 use Rattle.plug_lookup.proofs.header.find_row.Tie as tie
@@ -15,7 +15,7 @@ use Rattle.plug_lookup.proofs.header.find_row.Tie as tie
 -- the loop holds the bits of the latitude
 abbrev invariant-loop : tie.invariant-loop
 invariant-loop header latitude i₀ i-end i =
-    (i ≤ i-end) × (i-end ≡ rows_of header) × (rowFrom header (to_z w32 latitude) (rows_of header) 0 ≡ rowFrom header (to_z w32 latitude) (rows_of header - i) i)
+    (i ≤ i-end) × (i-end ≡ rows_of header) × (row_from header (to_z w32 latitude) (rows_of header) 0 ≡ row_from header (to_z w32 latitude) (rows_of header - i) i)
 
 abbrev decreases-loop : tie.decreases-loop
 decreases-loop header latitude i₀ i-end i = i-end - i
@@ -23,7 +23,7 @@ decreases-loop header latitude i₀ i-end i = i-end - i
 loop-holds : tie.Need-loop-init invariant-loop decreases-loop
 loop-holds c =
     let a = c.before.before.args in
-    (omega arith, c.rows.ensures, ap (λ k. rowFrom a.header.now (to_z w32 (of_z w32 a.latitude)) k 0) (sym (sub-zero (rows_of a.header.now))))
+    (omega arith, c.rows.ensures, ap (λ k. row_from a.header.now (to_z w32 (of_z w32 a.latitude)) k 0) (sym (sub-zero (rows_of a.header.now))))
 
 returns : tie.Need-returns invariant-loop decreases-loop
 returns c =
@@ -31,7 +31,7 @@ returns c =
     let h = s.args.header.now in
     let l = c.before.before.before.loop in
     let z = to_z-of_z w32 s.args.latitude s.ranges.latitude in
-    sym (ap (λ (v : ℤ). rowFrom h v (rows_of h) 0) (sym z) ∙ l.invariant.2 ∙ row-found h _ (rows_of h) l.i (omega arith) (sym c.before.does-cover.ensures ∙ c.if1.true))
+    sym (ap (λ (v : ℤ). row_from h v (rows_of h) 0) (sym z) ∙ l.invariant.2 ∙ row-found h _ (rows_of h) l.i (omega arith) (sym c.before.does-cover.ensures ∙ c.if1.true))
 
 loop-again : tie.Need-loop-preserved invariant-loop decreases-loop
 loop-again c =
@@ -45,7 +45,7 @@ returns-2 c =
     let h = s.args.header.now in
     let l = c.before.loop in
     let z = to_z-of_z w32 s.args.latitude s.ranges.latitude in
-    sym (ap (λ (v : ℤ). rowFrom h v (rows_of h) 0) (sym z) ∙ l.invariant.2 ∙ row-over h _ (rows_of h) l.i (omega arith))
+    sym (ap (λ (v : ℤ). row_from h v (rows_of h) 0) (sym z) ∙ l.invariant.2 ∙ row-over h _ (rows_of h) l.i (omega arith))
 
 pub find-row-spec : {M : Type 1} → statement M
 find-row-spec =

@@ -1,12 +1,12 @@
 use mathlib.Core.Path.{◌∙◌, sym}
 use borrow.Author.Tests.{not-false, not-true}
-use Rattle.plug_lookup.specs.Header.{isHeader}
+use Rattle.plug_lookup.specs.Header.{is_header}
 use borrow.Author.Rules.{rules}
 use Rattle.plug_lookup.proofs.header.is_header.Statement.{statement}
 use Rattle.plug_lookup.proofs.header.is_header.Tie as tie
 
 pub is-header-spec : {M : Type 1} → statement M
-unfolding isHeader
+unfolding is_header
 is-header-spec =
     tie.close (tie.spec
     (λ c κs. search rules)

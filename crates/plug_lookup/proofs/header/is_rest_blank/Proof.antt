@@ -9,40 +9,40 @@ use borrow.Author.Tests.{eq-eqb, ne_eqb}
 use borrow.Author.Rules.{rules}
 use Rattle.base_types.specs.Scan.{every}
 use Rattle.base_types.proofs.Scan.{every-fails, every-goes-on, every-over}
-use Rattle.plug_lookup.specs.Header.{restBlank}
+use Rattle.plug_lookup.specs.Header.{rest_blank}
 use Rattle.plug_lookup.proofs.header.is_rest_blank.Statement.{statement}
 use Rattle.plug_lookup.proofs.header.is_rest_blank.Tie as tie
 
-abbrev isBlankAt : List ℕ → ℕ → Bool
-isBlankAt header k = eqb (get_or header k 0) 0xFF
+abbrev is_blank_at : List ℕ → ℕ → Bool
+is_blank_at header k = eqb (get_or header k 0) 0xFF
 
 abbrev invariant-loop : tie.invariant-loop
-invariant-loop header k₀ k = restBlank header ≡ every (isBlankAt header) (32 - k) k
+invariant-loop header k₀ k = rest_blank header ≡ every (is_blank_at header) (32 - k) k
 
 abbrev decreases-loop : tie.decreases-loop
 decreases-loop header k₀ k = 32 - k
 
 loop-holds : tie.Need-loop-init invariant-loop decreases-loop
-unfolding restBlank
-loop-holds c = ap (λ r. every (isBlankAt c.before.before.args.header.now) (32 - (10 + r)) (10 + r)) (sym c.rows.ensures)
+unfolding rest_blank
+loop-holds c = ap (λ r. every (is_blank_at c.before.before.args.header.now) (32 - (10 + r)) (10 + r)) (sym c.rows.ensures)
 
 returns : tie.Need-returns invariant-loop decreases-loop
 returns c =
     let h = c.before.before.before.before.before.before.args.header.now in
     let l = c.before.before.before.loop in
-    sym (l.invariant ∙ every-fails (isBlankAt h) 32 l.k (omega arith) (ap (λ b. eqb b 0xFF) (sym c.before.byte-at.ensures) ∙ ne_eqb _ _ c.if1.true))
+    sym (l.invariant ∙ every-fails (is_blank_at h) 32 l.k (omega arith) (ap (λ b. eqb b 0xFF) (sym c.before.byte-at.ensures) ∙ ne_eqb _ _ c.if1.true))
 
 loop-again : tie.Need-loop-preserved invariant-loop decreases-loop
 loop-again c =
     let h = c.before.before.before.before.before.before.args.header.now in
     let l = c.before.before.before.loop in
-    l.invariant ∙ every-goes-on (isBlankAt h) 32 l.k (omega arith) (ap (λ b. eqb b 0xFF) (sym c.before.byte-at.ensures) ∙ eq-eqb _ _ c.if1.false)
+    l.invariant ∙ every-goes-on (is_blank_at h) 32 l.k (omega arith) (ap (λ b. eqb b 0xFF) (sym c.before.byte-at.ensures) ∙ eq-eqb _ _ c.if1.false)
 
 returns-2 : tie.Need-returns-2 invariant-loop decreases-loop
 returns-2 c =
     let h = c.before.before.before.before.args.header.now in
     let l = c.before.loop in
-    sym (l.invariant ∙ every-over (isBlankAt h) 32 l.k (omega arith))
+    sym (l.invariant ∙ every-over (is_blank_at h) 32 l.k (omega arith))
 
 pub is-rest-blank-spec : {M : Type 1} → statement M
 is-rest-blank-spec =

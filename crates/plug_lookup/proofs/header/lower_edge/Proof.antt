@@ -6,7 +6,7 @@ use mir.Syntax.{w32, w64}
 use mir.Val.{to_z, of_z}
 use mir.ValLaws.{to_z_pos, to_z-of_z}
 use borrow.Author.Rules.{rules}
-use Rattle.plug_lookup.specs.Header.{lowerEdge}
+use Rattle.plug_lookup.specs.Header.{lower_edge}
 use Rattle.plug_lookup.proofs.Edges.{product-below, sum_below}
 use Rattle.plug_lookup.proofs.header.lower_edge.Statement.{statement}
 use Rattle.plug_lookup.proofs.header.lower_edge.Tie as tie
@@ -35,7 +35,7 @@ add-result c =
     rw (edge-is c, above-is c) (record { sfits = omega (arith, sum_below c.edge.result (c.before.before.before.args.i * c.before.height.result) c.edge.type-inv (above-below c.before)) })
 
 returns : tie.Need-returns
-unfolding lowerEdge
+unfolding lower_edge
 returns c =
     to_z-of_z w64 _ (add-result c)
     ∙ ap₂ ◌+ℤ◌ (edge-is c ∙ c.edge.ensures) (above-is c ∙ ap (λ h. pos (c.before.before.before.args.i * h)) c.before.height.ensures)

@@ -6,20 +6,20 @@ use borrow.Author.Tests.{not-true, not-false}
 use borrow.Author.Rules.{rules}
 use Rattle.base_types.specs.Outcome.{accepted}
 use Rattle.base_tenths.specs.Tenths.{signed_of, is_value}
-use Rattle.plug_lookup.specs.Header.{wordAt}
-use Rattle.plug_lookup.specs.Lookup.{columnValue}
+use Rattle.plug_lookup.specs.Header.{word_at}
+use Rattle.plug_lookup.specs.Lookup.{column_value}
 use Rattle.plug_lookup.proofs.variation.in_column.Statement.{statement}
 use Rattle.plug_lookup.proofs.variation.in_column.Tie as tie
 
 -- what the value is, as the machine reads it back
-value-is : (c : tie.After-signed-of) → to_z w32 (of_z w32 c.Signed-of.result) ≡ signed_of (wordAt c.before.before.before.args.page.now c.before.before.before.args.column)
+value-is : (c : tie.After-signed-of) → to_z w32 (of_z w32 c.Signed-of.result) ≡ signed_of (word_at c.before.before.before.args.page.now c.before.before.before.args.column)
 value-is c =
     to_z-of_z w32 c.Signed-of.result (record { sfits = c.Signed-of.type-inv })
     ∙ c.Signed-of.ensures
     ∙ ap signed_of c.before.word_at.ensures
 
 pub in-column-spec : {M : Type 1} → statement M
-unfolding columnValue
+unfolding column_value
 in-column-spec =
     tie.close (tie.spec
     (λ c κs. search rules) (λ c κs. search rules) (λ c κs. search rules)

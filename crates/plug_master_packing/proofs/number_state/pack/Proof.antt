@@ -1,5 +1,5 @@
 use Rattle.plug_master_packing.proofs.Number.{number-packing}
-use Rattle.plug_master_packing.specs.Number.{numberBytes, isNumberState, numberPacked, numberBuffer}
+use Rattle.plug_master_packing.specs.Number.{number_bytes, is_number_state, number_packed, number_buffer}
 use lib.ListN.{length}
 use mathlib.Core.Path.{◌≡◌}
 use borrow.Author.Rules.{rules}
@@ -7,7 +7,7 @@ use Rattle.plug_master_packing.proofs.number_state.pack.Statement.{statement}
 use Rattle.plug_master_packing.proofs.number_state.pack.Tie as tie
 
 pub pack-spec : {M : Type 1} → statement M
-unfolding numberPacked numberBuffer numberBytes isNumberState
+unfolding number_packed number_buffer number_bytes is_number_state
 pack-spec =
     tie.close (tie.spec
     (λ c κs. search rules) (λ c. search rules) (λ c κs. search rules) (λ c. search rules)

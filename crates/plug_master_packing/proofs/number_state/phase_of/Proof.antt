@@ -1,11 +1,11 @@
 use borrow.Author.Tests.{ne_eqb}
-use Rattle.plug_master_packing.specs.Number.{phaseOf}
+use Rattle.plug_master_packing.specs.Number.{phase_of}
 use borrow.Author.Rules.{rules}
 use Rattle.plug_master_packing.proofs.number_state.phase_of.Statement.{statement}
 use Rattle.plug_master_packing.proofs.number_state.phase_of.Tie as tie
 
 pub phase-of-spec : {M : Type 1} → statement M
-unfolding phaseOf
+unfolding phase_of
 phase-of-spec =
     tie.close (tie.spec
     (λ c. search rules) (λ c. search rules) (λ c. search rules) (λ c. search rules) (λ c κs. search rules)

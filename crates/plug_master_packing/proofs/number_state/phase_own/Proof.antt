@@ -1,14 +1,14 @@
 use Rattle.plug_master_packing.proofs.Number.{plain-own}
 use Rattle.plug_fields.proofs.Laws.{same_tag, same-own, same-two}
 use mathlib.Core.Path.{refl}
-use Rattle.plug_master_packing.specs.Number.{phaseOf, phaseBytes}
-use Rattle.plug_master_packing.specs.Code.Number.{phaseOwn}
+use Rattle.plug_master_packing.specs.Number.{phase_of, phase_bytes}
+use Rattle.plug_master_packing.specs.Code.Number.{phase_own}
 use borrow.Author.Rules.{rules}
 use Rattle.plug_master_packing.proofs.number_state.phase_own.Statement.{statement}
 use Rattle.plug_master_packing.proofs.number_state.phase_own.Tie as tie
 
 pub phase-own-spec : {M : Type 1} → statement M
-unfolding phaseOwn phaseOf phaseBytes
+unfolding phase_own phase_of phase_bytes
 phase-own-spec =
     tie.close (tie.spec
     (λ c. search rules) (λ c κs. search rules) (λ c κs. search rules) (λ c. search rules) (λ c. search rules) (λ c κs. search rules) (λ c κs. search rules)

@@ -1,6 +1,6 @@
 use Rattle.plug_master_packing.proofs.Number.{number-judged, number-held}
-use Rattle.plug_master_packing.specs.Number.{numberReadOf, isNumberState, numberJudged}
-use Rattle.plug_fields.specs.Fields.{isCopy}
+use Rattle.plug_master_packing.specs.Number.{number_read_of, is_number_state, number_judged}
+use Rattle.plug_fields.specs.Fields.{is_copy}
 use mathlib.Core.Path.{◌∙◌}
 use borrow.Author.Tests.{ne_eqb}
 use borrow.Author.Rules.{rules}
@@ -8,7 +8,7 @@ use Rattle.plug_master_packing.proofs.number_state.unpack.Statement.{statement}
 use Rattle.plug_master_packing.proofs.number_state.unpack.Tie as tie
 
 pub unpack-spec : {M : Type 1} → statement M
-unfolding numberJudged isNumberState isCopy numberReadOf
+unfolding number_judged is_number_state is_copy number_read_of
 unpack-spec =
     tie.close (tie.spec
     (λ c κs. search rules)

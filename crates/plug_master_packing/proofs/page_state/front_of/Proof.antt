@@ -1,10 +1,10 @@
-use Rattle.plug_master_packing.specs.Page.{phaseBytes}
+use Rattle.plug_master_packing.specs.Page.{phase_bytes}
 use borrow.Author.Rules.{rules}
 use Rattle.plug_master_packing.proofs.page_state.front_of.Statement.{statement}
 use Rattle.plug_master_packing.proofs.page_state.front_of.Tie as tie
 
 pub front-of-spec : {M : Type 1} → statement M
-unfolding phaseBytes
+unfolding phase_bytes
 front-of-spec =
     tie.close (tie.spec
     (λ c. search rules) (λ c. search rules) (λ c. search rules) (λ c. search rules) (λ c κs. search rules) (λ c. search rules) (λ c. search rules)

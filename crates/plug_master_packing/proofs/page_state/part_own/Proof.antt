@@ -1,14 +1,14 @@
 use Rattle.plug_master_packing.proofs.Page.{part-own}
 use Rattle.plug_fields.proofs.Laws.{same_tag}
 use mathlib.Core.Path.{refl}
-use Rattle.plug_master_packing.specs.Page.{part_of, partBytes}
-use Rattle.plug_master_packing.specs.Code.Page.{partOwn}
+use Rattle.plug_master_packing.specs.Page.{part_of, part_bytes}
+use Rattle.plug_master_packing.specs.Code.Page.{part_own}
 use borrow.Author.Rules.{rules}
 use Rattle.plug_master_packing.proofs.page_state.part_own.Statement.{statement}
 use Rattle.plug_master_packing.proofs.page_state.part_own.Tie as tie
 
 pub part-own-spec : {M : Type 1} → statement M
-unfolding partOwn part_of partBytes
+unfolding part_own part_of part_bytes
 part-own-spec =
     tie.close (tie.spec
     (λ c. search rules) (λ c κs. search rules) (λ c κs. search rules) (λ c κs. search rules) (λ c κs. search rules)

@@ -4,14 +4,14 @@ use mathlib.Core.Path.{refl}
 use lib.ListN.{get_or}
 use native.Mathlib.Omega.{arith}
 use Prim.Native.Nat.{◌<◌}
-use Rattle.plug_master_packing.specs.Page.{phaseOf, phaseBytes}
-use Rattle.plug_master_packing.specs.Code.Page.{partOwn, phaseOwn}
+use Rattle.plug_master_packing.specs.Page.{phase_of, phase_bytes}
+use Rattle.plug_master_packing.specs.Code.Page.{part_own, phase_own}
 use borrow.Author.Rules.{rules}
 use Rattle.plug_master_packing.proofs.page_state.phase_own.Statement.{statement}
 use Rattle.plug_master_packing.proofs.page_state.phase_own.Tie as tie
 
 pub phase-own-spec : {M : Type 1} → statement M
-unfolding phaseOwn phaseOf phaseBytes partOwn
+unfolding phase_own phase_of phase_bytes part_own
 phase-own-spec =
     tie.close (tie.spec
     (λ c. search rules) (λ c κs. search rules) (λ c κs. search rules) (λ c. search rules) (λ c. search rules) (λ c κs. search rules) (λ c κs. search rules)

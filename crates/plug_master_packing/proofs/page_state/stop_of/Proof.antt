@@ -1,10 +1,10 @@
-use Rattle.plug_master_packing.specs.Page.{pageStopOf}
+use Rattle.plug_master_packing.specs.Page.{page_stop_of}
 use borrow.Author.Tests.{ne_eqb}
 use Rattle.plug_master_packing.proofs.page_state.stop_of.Statement.{statement}
 use Rattle.plug_master_packing.proofs.page_state.stop_of.Tie as tie
 
 pub stop-of-spec : {M : Type 1} → statement M
-unfolding pageStopOf
+unfolding page_stop_of
 stop-of-spec =
     tie.close (tie.spec
     (λ c. simp c.match.keys1) (λ c. simp c.match.keys2) (λ c. simp c.match.keys3) (λ c. simp c.match.keys4)

@@ -1,6 +1,6 @@
 use Rattle.plug_master_packing.proofs.Page.{page-judged, page-held}
-use Rattle.plug_master_packing.specs.Page.{pageReadOf, isPageState, pageJudged}
-use Rattle.plug_fields.specs.Fields.{isCopy}
+use Rattle.plug_master_packing.specs.Page.{page_read_of, is_page_state, page_judged}
+use Rattle.plug_fields.specs.Fields.{is_copy}
 use mathlib.Core.Path.{◌∙◌}
 use borrow.Author.Tests.{ne_eqb}
 use borrow.Author.Rules.{rules}
@@ -8,7 +8,7 @@ use Rattle.plug_master_packing.proofs.page_state.unpack.Statement.{statement}
 use Rattle.plug_master_packing.proofs.page_state.unpack.Tie as tie
 
 pub unpack-spec : {M : Type 1} → statement M
-unfolding pageJudged isPageState isCopy pageReadOf
+unfolding page_judged is_page_state is_copy page_read_of
 unpack-spec =
     tie.close (tie.spec
     (λ c κs. search rules)

@@ -3,14 +3,14 @@ use lib.ListN.{get_or}
 use native.Mathlib.Omega.{arith}
 use Prim.Native.Nat.{◌<◌}
 use borrow.Author.Tests.{ne_eqb}
-use Rattle.plug_master_packing.specs.Publisher.{stageOf, stageBytes}
-use Rattle.plug_master_packing.specs.Code.Publisher.{stageOwn}
+use Rattle.plug_master_packing.specs.Publisher.{stage_of, stage_bytes}
+use Rattle.plug_master_packing.specs.Code.Publisher.{stage_own}
 use borrow.Author.Rules.{rules}
 use Rattle.plug_master_packing.proofs.publisher_state.stage_own.Statement.{statement}
 use Rattle.plug_master_packing.proofs.publisher_state.stage_own.Tie as tie
 
 pub stage-own-spec : {M : Type 1} → statement M
-unfolding stageOwn stageOf stageBytes
+unfolding stage_own stage_of stage_bytes
 stage-own-spec =
     tie.close (tie.spec
     (λ c. search rules) (λ c. search rules) (λ c κs. search rules) (λ c κs. search rules) (λ c κs. search rules) (λ c. search rules) (λ c. search rules)

@@ -1,6 +1,6 @@
 use Rattle.plug_master_packing.proofs.Publisher.{publisher-judged, publisher-held}
-use Rattle.plug_master_packing.specs.Publisher.{publisherOf, isPublisherState, publisherJudged}
-use Rattle.plug_fields.specs.Fields.{isCopy}
+use Rattle.plug_master_packing.specs.Publisher.{publisher_of, is_publisher_state, publisher_judged}
+use Rattle.plug_fields.specs.Fields.{is_copy}
 use mathlib.Core.Path.{◌∙◌}
 use borrow.Author.Tests.{ne_eqb}
 use borrow.Author.Rules.{rules}
@@ -8,7 +8,7 @@ use Rattle.plug_master_packing.proofs.publisher_state.unpack.Statement.{statemen
 use Rattle.plug_master_packing.proofs.publisher_state.unpack.Tie as tie
 
 pub unpack-spec : {M : Type 1} → statement M
-unfolding publisherJudged isPublisherState isCopy publisherOf
+unfolding publisher_judged is_publisher_state is_copy publisher_of
 unpack-spec =
     tie.close (tie.spec
     (λ c κs. search rules)

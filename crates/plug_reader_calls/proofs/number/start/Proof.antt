@@ -1,10 +1,10 @@
-use Rattle.plug_master_packing.specs.Number.{numberBuffer, numberPacked}
+use Rattle.plug_master_packing.specs.Number.{number_buffer, number_packed}
 use borrow.Author.Rules.{rules}
 use Rattle.plug_reader_calls.proofs.number.start.Statement.{statement}
 use Rattle.plug_reader_calls.proofs.number.start.Tie as tie
 
 pub start_spec : {M : Type 1} → statement M
-unfolding numberBuffer numberPacked
+unfolding number_buffer number_packed
 start_spec =
     tie.close (tie.spec
     (λ c κs. search rules) (λ c κs. search rules) (λ c κs. search rules) (λ c. search rules)

@@ -1,14 +1,14 @@
 use mathlib.Core.Path.{sym, ap, ◌∙◌}
-use Rattle.base_types.specs.Outcome.{judgedOutcome}
-use Rattle.plug_answers.specs.Answers.{nextAnswered}
-use Rattle.plug_reader_calls.specs.Page.{pageCallOutcome, pageCallState, pageCallBuffer, pageCallTold}
+use Rattle.base_types.specs.Outcome.{judged_outcome}
+use Rattle.plug_answers.specs.Answers.{next_answered}
+use Rattle.plug_reader_calls.specs.Page.{page_call_outcome, page_call_state, page_call_buffer, page_call_told}
 use Rattle.plug_reader_calls.proofs.Judged.{page-call}
 use borrow.Author.Rules.{rules}
 use Rattle.plug_reader_calls.proofs.page.call.Statement.{statement}
 use Rattle.plug_reader_calls.proofs.page.call.Tie as tie
 
 pub call-spec : {M : Type 1} → statement M
-unfolding pageCallOutcome pageCallState pageCallBuffer pageCallTold nextAnswered
+unfolding page_call_outcome page_call_state page_call_buffer page_call_told next_answered
 call-spec =
     tie.close (tie.spec
     (λ c κs. search rules) (λ c κs. search rules) (λ c κs. search rules) (λ c. search rules) (λ c κs. search rules) (λ c. search rules)
@@ -16,11 +16,11 @@ call-spec =
     (λ c. let a = c.before.before.before.before.before.before.before.before.before.before.before.before.before.before.before.before.args in
     let unpack = c.before.before.before.before.before.before.before.before.before.before.before.unpack.ensures in
     let judged = sym (c.before.before.before.before.before.before.before.judge-call.ensures ∙ page-call a.state.now a.reply
-    a.answer.now unpack.0 unpack.1 c.before.before.before.before.before.before.before.before.before.in-range.ensures) ∙ ap judgedOutcome c.before.before.before.before.before.judged.given.1 in
+    a.answer.now unpack.0 unpack.1 c.before.before.before.before.before.before.before.before.before.in-range.ensures) ∙ ap judged_outcome c.before.before.before.before.before.judged.given.1 in
     (simp judged c.before.before.refuse.ensures.0, (simp judged, (simp judged, simp judged c.before.before.refuse.ensures.1))))
     (λ c. search rules) (λ c. search rules) (λ c. search rules)
     (λ c. let a = c.before.before.before.before.before.before.before.before.before.before.before.before.before.before.before.before.before.before.before.before.before.args in
     let unpack = c.before.before.before.before.before.before.before.before.before.before.before.before.before.before.before.before.unpack.ensures in
-    let judged = sym (c.before.before.before.before.before.before.before.before.before.before.before.before.judge-call.ensures ∙ page-call a.state.now a.reply a.answer.now unpack.0 unpack.1 c.before.before.before.before.before.before.before.before.before.before.before.before.before.before.in-range.ensures) ∙ ap judgedOutcome c.before.before.before.before.before.before.before.before.before.before.enum_told.given.1 in
+    let judged = sym (c.before.before.before.before.before.before.before.before.before.before.before.before.judge-call.ensures ∙ page-call a.state.now a.reply a.answer.now unpack.0 unpack.1 c.before.before.before.before.before.before.before.before.before.before.before.before.before.before.in-range.ensures) ∙ ap judged_outcome c.before.before.before.before.before.before.before.before.before.before.enum_told.given.1 in
     let called = c.before.before.before.before.before.before.call-state.ensures in
     (called.0 ∙ simp (judged, unpack.1), (called.1.0 ∙ simp (judged, unpack.1), (called.1.1.0 ∙ simp (judged, unpack.1), called.1.1.1 ∙ simp (judged, unpack.1))))))

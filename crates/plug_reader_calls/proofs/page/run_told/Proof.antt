@@ -2,7 +2,7 @@ use mathlib.Core.Path.{ap, ◌∙◌}
 use Rattle.base_types.specs.Outcome.{Outcome}
 use Rattle.bus_scripts.specs.Next.{Next}
 use Rattle.master_page.specs.Held.{PageHeld}
-use Rattle.plug_answers.specs.Answers.{code_in, nextAnswered}
+use Rattle.plug_answers.specs.Answers.{code_in, next_answered}
 use borrow.Author.Rules.{rules}
 use Rattle.plug_reader_calls.proofs.page.run_told.Statement.{statement}
 use Rattle.plug_reader_calls.proofs.page.run_told.Tie as tie
@@ -18,7 +18,7 @@ run-told-spec =
         run.1.1,
         (
           ap (λ (h : PageHeld). h.buffer) run.0,
-          tell.1 ∙ ap (λ (t : Outcome Next). nextAnswered t c.before.before.before.before.before.before.before.before.before.before.before.before.before.before.before.args.answer.now) run.1.0,
+          tell.1 ∙ ap (λ (t : Outcome Next). next_answered t c.before.before.before.before.before.before.before.before.before.before.before.before.before.before.before.args.answer.now) run.1.0,
         ),
       ),
     )))

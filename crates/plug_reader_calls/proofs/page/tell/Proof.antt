@@ -1,10 +1,10 @@
-use Rattle.plug_answers.specs.Answers.{nextAnswered}
+use Rattle.plug_answers.specs.Answers.{next_answered}
 use borrow.Author.Rules.{rules}
 use Rattle.plug_reader_calls.proofs.page.tell.Statement.{statement}
 use Rattle.plug_reader_calls.proofs.page.tell.Tie as tie
 
 pub tell-spec : {M : Type 1} → statement M
-unfolding nextAnswered
+unfolding next_answered
 tell-spec =
     tie.close (tie.spec
     (λ c. search rules) (λ c κs. search rules) (λ c. search rules) (λ c κs. search rules) (λ c. search rules) (λ c κs. search rules) (λ c. search rules)

@@ -1,13 +1,13 @@
 use Rattle.plug_sheet.proofs.Puts.{put_then}
 use Rattle.plug_sheet.proofs.Texts.{decimal-length}
-use Rattle.plug_sheet.specs.List.{finalText}
+use Rattle.plug_sheet.specs.List.{final_text}
 use native.Mathlib.Omega.{arith}
 use borrow.Author.Rules.{rules}
 use Rattle.plug_sheet.proofs.list.put_final.Statement.{statement}
 use Rattle.plug_sheet.proofs.list.put_final.Tie as tie
 
 pub put-final-spec : {M : Type 1} → statement M
-unfolding finalText
+unfolding final_text
 put-final-spec =
     tie.close (tie.spec
     (λ c. search rules) (λ c κs. search rules) (λ c. search rules) (λ c κs. search rules) (λ c. search rules)

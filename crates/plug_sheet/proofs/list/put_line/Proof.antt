@@ -1,13 +1,13 @@
 use Rattle.plug_sheet.proofs.Puts.{put_then}
 use Rattle.plug_sheet.proofs.Texts.{decimal-length, verdict-length}
-use Rattle.plug_sheet.specs.List.{verdictLine}
+use Rattle.plug_sheet.specs.List.{verdict_line}
 use native.Mathlib.Omega.{arith}
 use borrow.Author.Rules.{rules}
 use Rattle.plug_sheet.proofs.list.put_line.Statement.{statement}
 use Rattle.plug_sheet.proofs.list.put_line.Tie as tie
 
 pub put-line-spec : {M : Type 1} → statement M
-unfolding verdictLine
+unfolding verdict_line
 put-line-spec =
     tie.close (tie.spec
     (λ c. search rules) (λ c κs. search rules)

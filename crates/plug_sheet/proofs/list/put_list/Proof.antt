@@ -1,7 +1,7 @@
 use Rattle.plug_sheet.proofs.Puts.{put_then}
 use Rattle.plug_sheet.proofs.Texts.{pages-length, page-lines-length}
 use Rattle.plug_sheet.specs.List.{list_of}
-use Rattle.chip_memory.specs.Layout.{pageCount}
+use Rattle.chip_memory.specs.Layout.{page_count}
 use native.Mathlib.Omega.{arith}
 use borrow.Author.Rules.{rules}
 use Rattle.plug_sheet.proofs.list.put_list.Statement.{statement}
@@ -12,8 +12,8 @@ unfolding list_of
 put-list-spec =
     tie.close (tie.spec
     (λ c κs. search rules)
-    (λ c κs. omega (arith, pages-length (pageCount c.before.before.before.before.before.before.before.args.last)))
-    (λ c κs. let n = pageCount c.before.before.before.before.before.before.before.before.before.before.before.args.last in
+    (λ c κs. omega (arith, pages-length (page_count c.before.before.before.before.before.before.before.args.last)))
+    (λ c κs. let n = page_count c.before.before.before.before.before.before.before.before.before.before.before.args.last in
     omega (arith, pages-length n, page-lines-length n c.before.before.before.before.before.before.before.before.before.before.before.args.image.now n 0))
     (λ c. search rules)
     (λ c. put_then _ _ _ _ _ _ _ _ c.before.before.before.before.before.before.before.before.before.before.put-pages.ensures (put_then _ _ _

@@ -1,11 +1,11 @@
 use Rattle.plug_sheet.proofs.Puts.{put_then}
-use Rattle.plug_sheet.specs.List.{outsideText}
+use Rattle.plug_sheet.specs.List.{outside_text}
 use borrow.Author.Rules.{rules}
 use Rattle.plug_sheet.proofs.list.put_outside.Statement.{statement}
 use Rattle.plug_sheet.proofs.list.put_outside.Tie as tie
 
 pub put-outside-spec : {M : Type 1} → statement M
-unfolding outsideText
+unfolding outside_text
 put-outside-spec =
     tie.close (tie.spec
     (λ c. search rules) (λ c κs. search rules) (λ c κs. search rules) (λ c. search rules)

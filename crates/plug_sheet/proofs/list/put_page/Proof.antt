@@ -1,5 +1,5 @@
 use Rattle.plug_sheet.proofs.Puts.{put-nothing}
-use Rattle.plug_sheet.specs.List.{pageLine}
+use Rattle.plug_sheet.specs.List.{page_line}
 use mathlib.Core.Path.{sym, ◌∙◌}
 use borrow.Author.Tests.{eq-eqb, ne_eqb}
 use borrow.Author.Rules.{rules}
@@ -7,7 +7,7 @@ use Rattle.plug_sheet.proofs.list.put_page.Statement.{statement}
 use Rattle.plug_sheet.proofs.list.put_page.Tie as tie
 
 pub put-page-spec : {M : Type 1} → statement M
-unfolding pageLine
+unfolding page_line
 put-page-spec =
     tie.close (tie.spec
     (λ c κs. search rules)

@@ -1,7 +1,7 @@
 use Rattle.plug_sheet.proofs.Puts.{put_then, put_same}
 use Rattle.plug_sheet.proofs.Texts.{decimal-length}
 use Rattle.plug_sheet.specs.Text.{decimal}
-use Rattle.plug_sheet.specs.List.{pagesLine}
+use Rattle.plug_sheet.specs.List.{pages_line}
 use mathlib.Core.Path.{ap}
 use native.Mathlib.Omega.{arith}
 use borrow.Author.Rules.{rules}
@@ -9,7 +9,7 @@ use Rattle.plug_sheet.proofs.list.put_pages.Statement.{statement}
 use Rattle.plug_sheet.proofs.list.put_pages.Tie as tie
 
 pub put-pages-spec : {M : Type 1} → statement M
-unfolding pagesLine
+unfolding pages_line
 put-pages-spec =
     tie.close (tie.spec
     (λ c. search rules) (λ c κs. search rules) (λ c κs. search rules) (λ c κs. search rules) (λ c. search rules)

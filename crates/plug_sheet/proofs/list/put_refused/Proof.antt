@@ -1,13 +1,13 @@
 use Rattle.plug_sheet.proofs.Puts.{put_then}
 use Rattle.plug_sheet.proofs.Texts.{decimal-length}
-use Rattle.plug_sheet.specs.List.{refusedLine}
+use Rattle.plug_sheet.specs.List.{refused_line}
 use native.Mathlib.Omega.{arith}
 use borrow.Author.Rules.{rules}
 use Rattle.plug_sheet.proofs.list.put_refused.Statement.{statement}
 use Rattle.plug_sheet.proofs.list.put_refused.Tie as tie
 
 pub put-refused-spec : {M : Type 1} → statement M
-unfolding refusedLine
+unfolding refused_line
 put-refused-spec =
     tie.close (tie.spec
     (λ c. search rules) (λ c κs. search rules) (λ c κs. search rules) (λ c. search rules)

@@ -1,10 +1,10 @@
-use Rattle.plug_sheet.specs.List.{verdictText}
+use Rattle.plug_sheet.specs.List.{verdict_text}
 use borrow.Author.Rules.{rules}
 use Rattle.plug_sheet.proofs.list.put_verdict.Statement.{statement}
 use Rattle.plug_sheet.proofs.list.put_verdict.Tie as tie
 
 pub put-verdict-spec : {M : Type 1} → statement M
-unfolding verdictText
+unfolding verdict_text
 put-verdict-spec =
     tie.close (tie.spec
     (λ c. search rules) (λ c κs. search rules) (λ c. search rules) (λ c. search rules) (λ c κs. search rules) (λ c. search rules) (λ c κs. search rules)

@@ -1,6 +1,6 @@
 use Rattle.plug_sheet.proofs.Puts.{put_first}
 use Rattle.plug_sheet.proofs.Sheets.{accepted-sheet, refused-sheet}
-use Rattle.plug_sheet.specs.List.{list_of, listAnswer, listBuffer}
+use Rattle.plug_sheet.specs.List.{list_of, list_answer, list_buffer}
 use Rattle.chip_memory.specs.Page.{copied}
 use Rattle.base_types.specs.Outcome.{accepted}
 use mathlib.Core.Path.{ap, ◌∙◌}
@@ -12,7 +12,7 @@ use Rattle.plug_sheet.proofs.list.write.Statement.{statement}
 use Rattle.plug_sheet.proofs.list.write.Tie as tie
 
 pub write_spec : {M : Type 1} → statement M
-unfolding listAnswer listBuffer
+unfolding list_answer list_buffer
 write_spec =
     tie.close (tie.spec
     (λ c. let room = lt-leb _ _ c.if1.true in

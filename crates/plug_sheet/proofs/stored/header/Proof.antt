@@ -1,10 +1,10 @@
-use Rattle.plug_sheet.specs.Stored.{headerOf}
+use Rattle.plug_sheet.specs.Stored.{header_of}
 use borrow.Author.Rules.{rules}
 use Rattle.plug_sheet.proofs.stored.header.Statement.{statement}
 use Rattle.plug_sheet.proofs.stored.header.Tie as tie
 
 pub header-spec : {M : Type 1} → statement M
-unfolding headerOf
+unfolding header_of
 header-spec =
     tie.close (tie.spec
     (λ c κs. search rules) (λ c κs. search rules) (λ c. search rules) (λ c κs. search rules) (λ c κs. search rules) (λ c κs. search rules)

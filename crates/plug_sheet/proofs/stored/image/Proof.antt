@@ -1,12 +1,12 @@
 use Rattle.plug_sheet.proofs.Sheets.{sheet-means, accepted-sheet, rest-whole}
-use Rattle.plug_sheet.specs.Stored.{imagePart}
+use Rattle.plug_sheet.specs.Stored.{image_part}
 use native.Mathlib.Omega.{arith}
 use borrow.Author.Rules.{rules}
 use Rattle.plug_sheet.proofs.stored.image.Statement.{statement}
 use Rattle.plug_sheet.proofs.stored.image.Tie as tie
 
 pub image-spec : {M : Type 1} → statement M
-unfolding imagePart
+unfolding image_part
 image-spec =
     tie.close (tie.spec
     (λ c κs. search rules) (λ c. search rules) (λ c. search rules) (λ c. search rules) (λ c. search rules) (λ c. search rules)

@@ -1,4 +1,4 @@
-use Rattle.plug_sheet.specs.Stored.{sheetAnswer}
+use Rattle.plug_sheet.specs.Stored.{sheet_answer}
 use mathlib.Core.Path.{sym, ◌∙◌}
 use borrow.Author.Tests.{not-true, not-false}
 use borrow.Author.Rules.{rules}
@@ -6,7 +6,7 @@ use Rattle.plug_sheet.proofs.stored.judge.Statement.{statement}
 use Rattle.plug_sheet.proofs.stored.judge.Tie as tie
 
 pub judge-spec : {M : Type 1} → statement M
-unfolding sheetAnswer
+unfolding sheet_answer
 judge-spec =
     tie.close (tie.spec
     (λ c κs. search rules)

@@ -1,11 +1,11 @@
 use Rattle.plug_sheet.proofs.Sheets.{sheet-means, accepted-sheet}
-use Rattle.plug_sheet.specs.Stored.{numberPart}
+use Rattle.plug_sheet.specs.Stored.{number_part}
 use borrow.Author.Rules.{rules}
 use Rattle.plug_sheet.proofs.stored.number.Statement.{statement}
 use Rattle.plug_sheet.proofs.stored.number.Tie as tie
 
 pub number-spec : {M : Type 1} → statement M
-unfolding numberPart
+unfolding number_part
 number-spec =
     tie.close (tie.spec
     (λ c κs. search rules) (λ c. search rules) (λ c. search rules) (λ c. search rules) (λ c. search rules) (λ c. search rules) (λ c. search rules)

@@ -1,6 +1,6 @@
 use borrow.Author.Rules.{rules}
 use Rattle.plug_sheet.proofs.Sheets.{starts-next, starts-not, starts-short, starts-end}
-use Rattle.plug_sheet.specs.Stored.{startsWith}
+use Rattle.plug_sheet.specs.Stored.{starts_with}
 use Prim.Native.Nat.{◌-◌, ◌≤◌}
 use mathlib.Core.Path.{◌≡◌, refl, ◌∙◌}
 use native.Mathlib.Omega.{arith}
@@ -9,7 +9,7 @@ use Rattle.plug_sheet.proofs.stored.starts_with.Statement.{statement}
 use Rattle.plug_sheet.proofs.stored.starts_with.Tie as tie
 
 abbrev invariant-loop : tie.invariant-loop
-invariant-loop sheet front i₀ i-end i = (i ≤ i-end) × (i-end ≡ length front) × (startsWith (drop i front) (drop i sheet) ≡ startsWith front sheet)
+invariant-loop sheet front i₀ i-end i = (i ≤ i-end) × (i-end ≡ length front) × (starts_with (drop i front) (drop i sheet) ≡ starts_with front sheet)
 
 abbrev decreases-loop : tie.decreases-loop
 decreases-loop sheet front i₀ i-end i = i-end - i

@@ -1,4 +1,4 @@
-use Rattle.plug_sheet.specs.Stored.{writeAnswer, writeBuffer}
+use Rattle.plug_sheet.specs.Stored.{write_answer, write_buffer}
 use Rattle.chip_memory.proofs.Sizes.{image-length}
 use mathlib.Core.Path.{sym, ◌∙◌}
 use native.Mathlib.Omega.{arith}
@@ -8,7 +8,7 @@ use Rattle.plug_sheet.proofs.stored.write.Statement.{statement}
 use Rattle.plug_sheet.proofs.stored.write.Tie as tie
 
 pub write_spec : {M : Type 1} → statement M
-unfolding writeAnswer writeBuffer
+unfolding write_answer write_buffer
 write_spec =
     tie.close (tie.spec
     (λ c κs. search rules)

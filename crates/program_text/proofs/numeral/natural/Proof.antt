@@ -1,12 +1,12 @@
 use mathlib.Core.Path.{◌∙◌}
 use borrow.Author.Tests.{lt-leb, le-leb}
 use borrow.Author.Rules.{rules}
-use Rattle.program_text.specs.Numeral.{naturalOf}
+use Rattle.program_text.specs.Numeral.{natural_of}
 use Rattle.program_text.proofs.numeral.natural.Statement.{statement}
 use Rattle.program_text.proofs.numeral.natural.Tie as tie
 
 pub natural-spec : {M : Type 1} → statement M
-unfolding naturalOf
+unfolding natural_of
 natural-spec =
     tie.close (tie.spec
     (λ c. simp (lt-leb _ _ c.if1.true))
