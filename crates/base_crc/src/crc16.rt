@@ -7,7 +7,7 @@ ghost use Rattle.base_crc.specs.Table.{table_of, low_nibbles_of, high_nibbles_of
 use crate::crc16_table;
 
 // What is sent of a register: first the low byte, then the high one.
-#[derive(Drop)]
+#[derive(Clone, Copy)]
 pub struct SentBytes(pub u8, pub u8);
 
 // ---- the table. A constant stands in no memory of its own: each function that names it makes a copy.

@@ -1,4 +1,6 @@
 // Signed tenths of a degree: decoded from two bytes, judged, and the change from one to another.
+#![tactic(auto)]
+
 ghost use Rattle.std.specs.Prelude.{◌≡◌, ℤ, ◌-ℤ◌};
 ghost use Rattle.base_types.specs.Outcome.{accepted};
 ghost use Rattle.base_tenths.specs.Tenths.{word_of, signed_of, low_bits, is_value, Folds, fold_of, tenths_outcome, change_answer};
@@ -6,7 +8,7 @@ ghost use Rattle.base_tenths.specs.Tenths.{word_of, signed_of, low_bits, is_valu
 use base_types::refusal::Refusal;
 
 // What is told: tenths of a degree, or a refusal.
-#[derive(Drop)]
+#[derive(Clone, Copy)]
 pub enum Tenths {
     Refused(Refusal),
     Outcome(i32),

@@ -1,5 +1,7 @@
 // What every crate above speaks of: addresses and pages as types of their own, the bits of a byte, the walk's verdict, the refusals,
 // the modes of a write.
+#![tactic(auto)]
+
 pub mod address;
 pub mod bits;
 pub mod refusal;

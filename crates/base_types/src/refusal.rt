@@ -5,7 +5,7 @@ ghost use Rattle.base_types.specs.Outcome.{judged_outcome, in_order};
 use crate::address::Page;
 
 // The refusals of documents 01 and 02, in the order of their numbers, each with the values that it gives back. A state is given back beside it.
-#[derive(Drop)]
+#[derive(Clone, Copy)]
 pub enum Refusal {
     ImageLength,
     StateRange,
@@ -29,18 +29,18 @@ pub enum Refusal {
 }
 
 // What a refusal gives back besides a state.
-#[derive(Drop)]
+#[derive(Clone, Copy)]
 pub enum Given {
     Nothing,
     One(u8),
 }
 
 // A refusal by its number, with what it gives back.
-#[derive(Drop)]
+#[derive(Clone, Copy)]
 pub struct Numbered(pub u8, pub Given);
 
 // Whether an input is accepted, where nothing more is told.
-#[derive(Drop)]
+#[derive(Clone, Copy)]
 pub enum Judged {
     Refused(Refusal),
     Accepted,

@@ -1,7 +1,7 @@
 use crate::address::Page;
 
 // How the walk from a page ends: at a valid page, after so many hops; never; or at a byte that names a page above the last one.
-#[derive(Drop)]
+#[derive(Clone, Copy)]
 pub enum Verdict {
     Final(Page, u8),
     Loop,

@@ -5,7 +5,7 @@ ghost use Rattle.base_types.specs.WriteMode.{write_command};
 use crate::address::Space;
 
 // Ordinary: a CRC is sent before each pulse. Quick: none is, the data sheet's speed-programming mode.
-#[derive(Drop)]
+#[derive(Clone, Copy)]
 pub enum WriteMode {
     Ordinary,
     Quick,

@@ -1,4 +1,6 @@
 // What can happen on the bus, and each event as a byte.
+#![tactic(auto)]
+
 ghost use Rattle.std.specs.Prelude.{◌≡◌};
 ghost use Rattle.bus_events.specs.Codes.{code_of, event_of, is_event};
 ghost use Rattle.bus_events.specs.Events as named;
@@ -6,7 +8,7 @@ ghost use Rattle.bus_events.specs.Events as named;
 use base_types::bits;
 
 // A read slot is a slot with the master's bit 1.
-#[derive(Drop)]
+#[derive(Clone, Copy)]
 pub enum Event {
     Reset,
     Slot(bool),

@@ -11,7 +11,7 @@ use base_types::address::Page;
 use chip_memory::{image, layout};
 
 // Which pages are counted.
-#[derive(Drop)]
+#[derive(Clone, Copy)]
 pub enum Tally {
     Free,
     Redirected,

@@ -9,7 +9,7 @@ use chip_memory::layout::Field;
 use chip_memory::{image, layout, page};
 
 // A page that was looked for.
-#[derive(Drop)]
+#[derive(Clone, Copy)]
 pub enum Found {
     At(Page),
     Nothing,

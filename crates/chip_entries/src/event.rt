@@ -18,26 +18,26 @@ use chip_stage::stage;
 use chip_stage::stage::{Incoming, MemoryStage};
 
 // Where the chip stands: in a ROM function, or in a memory function. A silent chip counts as the latter.
-#[derive(Drop)]
+#[derive(Clone, Copy)]
 pub enum Stage {
     Rom(RomStage),
     Memory(MemoryStage),
 }
 
 // The stage, and the registration number, eight bytes of any value.
-#[derive(Drop)]
+#[derive(Clone, Copy)]
 pub struct State {
     pub stage: Stage,
     pub number: [u8; 8],
 }
 
-#[derive(Drop)]
+#[derive(Clone, Copy)]
 pub enum Answer {
     Refused(Refusal),
     Reply(bool),
 }
 
-#[derive(Drop)]
+#[derive(Clone, Copy)]
 pub struct Stepped {
     pub answer: Answer,
     pub state: State,
@@ -167,7 +167,7 @@ pub fn event(state: State, event: Event, image: &mut [u8]) -> Stepped
 
 // ---- several events, a byte each
 
-#[derive(Drop)]
+#[derive(Clone, Copy)]
 pub struct Ran {
     pub answer: Judged,
     pub state: State,

@@ -8,7 +8,7 @@ use base_types::refusal::{Judged, Refusal};
 use chip_chain::free::Found;
 use chip_memory::layout;
 
-#[derive(Drop)]
+#[derive(Clone, Copy)]
 pub enum FreePage {
     Refused(Refusal),
     At(Page),
@@ -38,13 +38,13 @@ pub fn lowest(image: &[u8], other: Page) -> FreePage
     }
 }
 
-#[derive(Drop)]
+#[derive(Clone, Copy)]
 pub struct PageCounts {
     pub redirected: usize,
     pub free: usize,
 }
 
-#[derive(Drop)]
+#[derive(Clone, Copy)]
 pub enum Counted {
     Refused(Refusal),
     Pages(PageCounts),

@@ -8,7 +8,7 @@ use base_types::refusal::{Judged, Refusal};
 use base_types::verdict::Verdict;
 use chip_memory::layout;
 
-#[derive(Drop)]
+#[derive(Clone, Copy)]
 pub enum Walked {
     Refused(Refusal),
     Ended(Verdict),

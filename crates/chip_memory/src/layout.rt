@@ -11,7 +11,7 @@ pub const DS2505: u8 = 63;
 pub const REDIRECTION_BYTES: u16 = 0x100;
 
 // The three fields of bits of the status memory.
-#[derive(Drop)]
+#[derive(Clone, Copy)]
 pub enum Field {
     DataProtection,
     RedirectionProtection,

@@ -1,11 +1,13 @@
 // The ROM functions: Read, Match, Search and Skip over the 64-bit registration number. They are the same for each chip.
+#![tactic(auto)]
+
 ghost use Rattle.std.specs.Prelude.{◌≡◌};
 ghost use Rattle.chip_rom.specs.Rom.{number_bit, rom_command, rom_command_bit, next_of, taken_of, number_slot, rom_slot, number_sent, rom_bit, rom_in_range};
 
 use base_types::bits;
 
 // What a chip does at a bit of its number.
-#[derive(Drop)]
+#[derive(Clone, Copy)]
 pub enum RomStep {
     Read,
     Match,
@@ -16,14 +18,14 @@ pub enum RomStep {
 
 // Where a chip stands between a reset and the end of its ROM command: so many bits of the command byte are in the register; or a step
 // at a bit of the number.
-#[derive(Drop)]
+#[derive(Clone, Copy)]
 pub enum RomStage {
     Command(u8, u8),
     Number(RomStep, u8),
 }
 
 // What a slot leads to: another stage, the memory functions, or silence.
-#[derive(Drop)]
+#[derive(Clone, Copy)]
 pub enum RomOutcome {
     Stays(RomStage),
     Selected,

@@ -6,7 +6,7 @@ use base_types::address::{DataAddress, Space, StatusAddress, Target};
 use base_types::write_mode::WriteMode;
 
 // A memory command that takes an address.
-#[derive(Drop)]
+#[derive(Clone, Copy)]
 pub enum Command {
     ReadMemory,
     ReadStatus,
@@ -15,7 +15,7 @@ pub enum Command {
 }
 
 // What a byte that comes in is.
-#[derive(Drop)]
+#[derive(Clone, Copy)]
 pub enum Incoming {
     Command,
     AddressLow(Command),
@@ -25,7 +25,7 @@ pub enum Incoming {
 
 // What is being sent. A data or status byte is named by its address, and a CRC by the last address that it covers. A CRC before a pulse
 // is sent in the ordinary mode only.
-#[derive(Drop)]
+#[derive(Clone, Copy)]
 pub enum Outgoing {
     MemoryData(DataAddress),
     MemoryCrc,
@@ -41,7 +41,7 @@ pub enum Outgoing {
 
 // Silent until reset. Receive: what comes, how many of its bits are in, the register that collects them, the CRC register.
 // Send: what goes, how many bits are left, these bits, the CRC register. Armed: a pulse will write the byte.
-#[derive(Drop)]
+#[derive(Clone, Copy)]
 pub enum MemoryStage {
     Silent,
     Receive(Incoming, u8, u8, u16),

@@ -1,5 +1,7 @@
 // The number read: a master that reads a chip's registration number. Reset, 33h, 64 read slots, closing reset.
 // The state says which event was last sent, so a call's answer is a function of the state that the reply leads to.
+#![tactic(auto)]
+
 ghost use Rattle.std.specs.Prelude.{◌≡◌, set};
 ghost use Rattle.master_number.specs.Code.NumberSteps.{number_with, number_stopped, number_presence, after_read_rom, family_judged, crc_judged};
 ghost use Rattle.master_number.specs.Code.NumberSteps.{number_stored, number_byte_in, number_bit_in, number_closed, number_next, number_phase_answer};
@@ -13,7 +15,7 @@ use bus_events::Event;
 
 // What was last sent, and what its reply is for: nothing yet; the reset; bit i of the command; a read slot of byte k, with so many bits
 // of the byte still out, itself included, and those that are in; the closing reset. Or the end.
-#[derive(Drop)]
+#[derive(Clone, Copy)]
 pub enum Phase {
     Begin,
     Presence,
@@ -25,28 +27,28 @@ pub enum Phase {
 }
 
 // What can stop a number read.
-#[derive(Drop)]
+#[derive(Clone, Copy)]
 pub enum NumberStop {
     NoPresence,
     Crc8,
     Family,
 }
 
-#[derive(Drop)]
+#[derive(Clone, Copy)]
 pub struct NumberRead {
     pub phase: Phase,
     pub bytes: [u8; 8],
 }
 
 // Done: the state's bytes are the number.
-#[derive(Drop)]
+#[derive(Clone, Copy)]
 pub enum Answer {
     Send(Event),
     Done,
     Refused(Refusal),
 }
 
-#[derive(Drop)]
+#[derive(Clone, Copy)]
 pub struct Stepped {
     pub answer: Answer,
     pub state: NumberRead,

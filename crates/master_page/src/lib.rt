@@ -2,6 +2,8 @@
 // For each visited page: reset, CCh, A5h, the address 32p, redirection byte, CRC. At FFh: data, CRC, closing reset.
 // The state says which event was last sent, so a call's answer is a function of the state that the reply leads to. A CRC is computed
 // from the bytes as received when its last bit is in. A chip is known by its last page, 63 for the DS2505.
+#![tactic(auto)]
+
 ghost use Rattle.std.specs.Prelude.{cond, [], ◌∷◌, ◌++◌, ◌≡◌, ◌*◌, set};
 ghost use Rattle.chip_memory.specs.Layout.{page_count};
 ghost use Rattle.chip_memory.specs.Page.{copied};
@@ -19,7 +21,7 @@ use bus_events::Event;
 use chip_memory::layout;
 
 // What is being received: a redirection byte, its CRC, byte k of the page, the page's CRC.
-#[derive(Drop)]
+#[derive(Clone, Copy)]
 pub enum Part {
     Redirection,
     RedirectionCrc(Redirection),
@@ -29,7 +31,7 @@ pub enum Part {
 
 // What was last sent, and what its reply is for: nothing yet; the reset before a command; bit i of the command; a read slot, with so
 // many bits of its part still out, itself included, and those that are in; the closing reset. Or the end.
-#[derive(Drop)]
+#[derive(Clone, Copy)]
 pub enum Phase {
     Begin,
     Presence,
@@ -41,7 +43,7 @@ pub enum Phase {
 }
 
 // What can stop a page read. The number outside is above the last page.
-#[derive(Drop)]
+#[derive(Clone, Copy)]
 pub enum PageStop {
     PageNumber,
     Loop,
@@ -51,7 +53,7 @@ pub enum PageStop {
 }
 
 // The page being visited, the hops made to it, and the bytes that have come in of the final page.
-#[derive(Drop)]
+#[derive(Clone, Copy)]
 pub struct PageRead {
     pub phase: Phase,
     pub page: Page,
@@ -59,26 +61,26 @@ pub struct PageRead {
     pub bytes: [u8; 32],
 }
 
-#[derive(Drop)]
+#[derive(Clone, Copy)]
 pub enum Answer {
     Send(Event),
     Final(Page, u8),
     Refused(Refusal),
 }
 
-#[derive(Drop)]
+#[derive(Clone, Copy)]
 pub struct Stepped {
     pub answer: Answer,
     pub state: PageRead,
 }
 
-#[derive(Drop)]
+#[derive(Clone, Copy)]
 pub enum StartAnswer {
     Refused(Refusal),
     Ready,
 }
 
-#[derive(Drop)]
+#[derive(Clone, Copy)]
 pub struct Started {
     pub answer: StartAnswer,
     pub state: PageRead,

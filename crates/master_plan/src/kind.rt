@@ -6,19 +6,19 @@ ghost use Rattle.master_plan.specs.Kind.{kind_of, selecting, head_count, crc_cou
 use base_types::write_mode::WriteMode;
 
 // How the chip is selected after each reset but the closing one.
-#[derive(Drop)]
+#[derive(Clone, Copy)]
 pub enum Selection {
     SkipRom,
 }
 
 // How T, the page that takes L's place, is chosen.
-#[derive(Drop)]
+#[derive(Clone, Copy)]
 pub enum Placement {
     LowestFree,
 }
 
 // What an update goes by: the mode of all its writes, the selection, the placement.
-#[derive(Drop)]
+#[derive(Clone, Copy)]
 pub struct UpdateKind {
     pub mode: WriteMode,
     pub selection: Selection,

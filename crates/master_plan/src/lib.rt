@@ -1,5 +1,7 @@
 // The plan of an update: its events in order, each with what its reply has to be. It goes by the kind of the update. Code gives the step
 // at a position.
+#![tactic(auto)]
+
 ghost use Rattle.std.specs.Prelude.{◌≡◌, ◌+◌, ◌/◌, ◌%◌, ◌<◌, get_or};
 ghost use Rattle.base_types.specs.Bits.{bit_at};
 ghost use Rattle.base_crc.specs.Crc.{crc16_of};
@@ -20,7 +22,7 @@ pub mod kind;
 
 // What the reply to an event has to be: it is not looked at; presence; this bit of a CRC or of a byte read back, which is judged at its
 // last bit.
-#[derive(Drop)]
+#[derive(Clone, Copy)]
 pub enum Wanted {
     Anything,
     Presence,
@@ -29,7 +31,7 @@ pub enum Wanted {
     LastBackBit(bool),
 }
 
-#[derive(Drop)]
+#[derive(Clone, Copy)]
 pub struct Step {
     pub event: Event,
     pub wanted: Wanted,
@@ -291,7 +293,7 @@ fn new_byte(new: [u8; 32], j: u16) -> u8
 
 // To which part of the plan an event belongs, and which it is of that part: the write of the bitmap byte, that of the new page, that of the
 // redirection byte, and the closing reset.
-#[derive(Drop)]
+#[derive(Clone, Copy)]
 pub enum Part {
     Bitmap(u16),
     NewPage(u16),

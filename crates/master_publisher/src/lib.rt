@@ -1,6 +1,8 @@
 // The publisher: a master that supersedes a page. Its start is lent the image and the new bytes; later calls go by the plan.
 // The state counts the events that were returned. Each bit that is read is compared with the one that is wanted as it comes, and the
 // CRC or byte is judged at its last bit.
+#![tactic(auto)]
+
 ghost use Rattle.std.specs.Prelude.{◌≡◌, replicate};
 ghost use Rattle.chip_memory.specs.Layout.{page_count};
 ghost use Rattle.chip_memory.specs.Page.{copied};
@@ -23,7 +25,7 @@ use master_plan::kind::{Placement, UpdateKind};
 use master_plan::{Step, Wanted, kind};
 
 // What can stop a publisher.
-#[derive(Drop)]
+#[derive(Clone, Copy)]
 pub enum PublisherStop {
     ImageLength,
     PageNumber,
@@ -58,7 +60,7 @@ pub fn refusal_of(stop: PublisherStop) -> Refusal
 }
 
 // Running: so many events have been returned; the bits of the present CRC or byte have agreed so far.
-#[derive(Drop)]
+#[derive(Clone, Copy)]
 pub enum Stage {
     Running(u16, bool),
     Done,
@@ -66,7 +68,7 @@ pub enum Stage {
 }
 
 // What the update goes by; L, the page that is superseded; T, the page that takes its place; T's bitmap byte as found; the new bytes.
-#[derive(Drop)]
+#[derive(Clone, Copy)]
 pub struct Publisher {
     pub kind: UpdateKind,
     pub stage: Stage,
@@ -76,26 +78,26 @@ pub struct Publisher {
     pub new: [u8; 32],
 }
 
-#[derive(Drop)]
+#[derive(Clone, Copy)]
 pub enum StartAnswer {
     Refused(Refusal),
     Ready,
 }
 
-#[derive(Drop)]
+#[derive(Clone, Copy)]
 pub struct Started {
     pub answer: StartAnswer,
     pub state: Publisher,
 }
 
-#[derive(Drop)]
+#[derive(Clone, Copy)]
 pub enum Answer {
     Send(Event),
     Published(Page, Page),
     Refused(Refusal),
 }
 
-#[derive(Drop)]
+#[derive(Clone, Copy)]
 pub struct Stepped {
     pub answer: Answer,
     pub state: Publisher,
@@ -104,7 +106,7 @@ pub struct Stepped {
 // ---- the start
 
 // L and T, or why there is no update.
-#[derive(Drop)]
+#[derive(Clone, Copy)]
 pub enum Choice {
     Refused(PublisherStop),
     Accepted(Page, Page),
@@ -238,7 +240,7 @@ pub fn start(kind: UpdateKind, image: &[u8], new: &[u8], page: Page) -> Started
 // ---- a reply
 
 // What a reply leads to: on, with whether the bits so far agree; or what stops it.
-#[derive(Drop)]
+#[derive(Clone, Copy)]
 pub enum Judged {
     On(bool),
     Stop(PublisherStop),

@@ -1,4 +1,6 @@
 // A whole page read on a lent image: the page read's start, and its later calls joined to a chip, event by event, until it ends.
+#![tactic(auto)]
+
 ghost use Rattle.std.specs.Prelude.{true, ◌≡◌, length};
 ghost use Rattle.bus_scripts.specs.Script.{left_in};
 ghost use Rattle.chip_chain.specs.Walk.{walk_of};
@@ -16,14 +18,14 @@ use chip_memory::layout;
 use master_page::Answer;
 
 // How a read ends.
-#[derive(Drop)]
+#[derive(Clone, Copy)]
 pub enum End {
     Refused(Refusal),
     Final(Page, u8),
 }
 
 // The end, and how many events reached the chip.
-#[derive(Drop)]
+#[derive(Clone, Copy)]
 pub struct Reading {
     pub end: End,
     pub events: u32,

@@ -1,4 +1,6 @@
 // A whole update on a lent image: the publisher's start, and its later calls joined to a chip, with the power cut after so many events.
+#![tactic(auto)]
+
 ghost use Rattle.std.specs.Prelude.{◌≡◌};
 ghost use Rattle.bus_events.specs.declared.Event.{Event};
 ghost use Rattle.base_types.specs.Outcome.{accepted};
@@ -16,14 +18,14 @@ use master_plan::kind::UpdateKind;
 use master_publisher::{Publisher, Stage, StartAnswer};
 
 // A publisher joined to a chip, and the reply that the last event drew.
-#[derive(Drop)]
+#[derive(Clone, Copy)]
 pub struct Joined {
     pub publisher: Publisher,
     pub chip: State,
     pub reply: bool,
 }
 
-#[derive(Drop)]
+#[derive(Clone, Copy)]
 pub enum Updated {
     Refused(Refusal),
     Ran(Page, Page),

@@ -1,5 +1,7 @@
 // The library for programs in C and Rust: numbers and byte slices alone. Every function judges what it is given. A code is 0, or the
 // number of a refusal; docs/C-INTERFACE.md has the codes, the bytes of an answer and the bytes of each state.
+#![tactic(auto)]
+
 ghost use Rattle.std.specs.Prelude.{◌≡◌};
 ghost use Rattle.base_crc.specs.Crc.{crc8_from, crc16_from};
 

@@ -1,4 +1,6 @@
 // The work of the chip's entries: a whole run from power-up, and step by step with the state in 24 bytes that the caller lends.
+#![tactic(auto)]
+
 ghost use Rattle.std.specs.Prelude.{◌≡◌};
 ghost use Rattle.base_types.specs.Outcome.{judged_outcome, unless_refused};
 ghost use Rattle.chip_entries.specs.Run.{run_answer, ran_chip, ran_replies};

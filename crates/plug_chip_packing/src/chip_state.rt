@@ -16,7 +16,7 @@ use chip_rom::{RomStage, RomStep};
 use chip_stage::stage::{Command, Incoming, MemoryStage, Outgoing};
 
 // The state that bytes hold, with 2 where they hold none.
-#[derive(Drop)]
+#[derive(Clone, Copy)]
 pub struct Unpacked {
     pub judged: Judged,
     pub state: State,

@@ -1,4 +1,6 @@
 // States as bytes, the kinds of fields: a byte, a 16-bit number, an enum by a number, zeros, an array; and the whole in a buffer.
+#![tactic(auto)]
+
 ghost use Rattle.std.specs.Prelude.{◌≡◌, ◌&&◌, ◌++◌, ◌+◌, ◌-◌, ◌/◌, ◌%◌, ◌≤◌, length, replicate};
 ghost use Rattle.base_types.specs.Bits.{one};
 ghost use Rattle.base_types.specs.Outcome.{judged_outcome};

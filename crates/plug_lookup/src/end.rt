@@ -7,7 +7,7 @@ use base_types::refusal::Refusal;
 use base_types::verdict::Verdict;
 use chip_images::walk::Walked;
 
-#[derive(Drop)]
+#[derive(Clone, Copy)]
 pub enum End {
     Refused(Refusal),
     At(Page),

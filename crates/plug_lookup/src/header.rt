@@ -7,7 +7,7 @@ use base_types::address::Page;
 use base_types::refusal::Refusal;
 
 // The row that covers a latitude.
-#[derive(Drop)]
+#[derive(Clone, Copy)]
 pub enum Row {
     Refused(Refusal),
     Number(u16),

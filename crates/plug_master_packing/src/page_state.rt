@@ -14,7 +14,7 @@ use base_types::refusal::{Judged, Refusal};
 use master_page::{PageRead, PageStop, Part, Phase};
 
 // The state that bytes hold, with 2 where they hold none.
-#[derive(Drop)]
+#[derive(Clone, Copy)]
 pub struct Unpacked {
     pub judged: Judged,
     pub state: PageRead,

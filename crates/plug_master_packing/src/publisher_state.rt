@@ -14,7 +14,7 @@ use master_plan::kind;
 use master_publisher::{Publisher, PublisherStop, Stage};
 
 // The state that bytes hold, with 2 where they hold none.
-#[derive(Drop)]
+#[derive(Clone, Copy)]
 pub struct Unpacked {
     pub judged: Judged,
     pub state: Publisher,

@@ -13,7 +13,7 @@ use base_types::verdict::Verdict;
 use chip_memory::{image, layout, page};
 
 // The text's length, or a refusal.
-#[derive(Drop)]
+#[derive(Clone, Copy)]
 pub enum Listed {
     Refused(Refusal),
     Text(usize),

@@ -1,4 +1,6 @@
 // The lookup on a stored sheet.
+#![tactic(auto)]
+
 ghost use Rattle.std.specs.Prelude.{◌≡◌};
 ghost use Rattle.base_tenths.specs.Tenths.{tenths_outcome};
 ghost use Rattle.plug_sheet_lookup.specs.Lookup.{sheet_value};

@@ -1,5 +1,7 @@
 // Shows what a plug on standard input does, page 5 above all: its list, two pages read over the bus, and an update cut after each event
 // up to the visible one. Every page is read from the chip by the page read, event by event.
+#![tactic(auto)]
+
 use base_types::address::Page;
 use base_types::refusal;
 use base_types::refusal::{Judged, Refusal};

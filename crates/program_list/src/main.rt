@@ -1,4 +1,6 @@
 // Lists the stored sheet on standard input.
+#![tactic(auto)]
+
 use libc::STDIN_FILENO;
 
 // One byte more than a sheet has is read, so that a longer input is refused.

@@ -1,5 +1,7 @@
 // Lists the stored sheets on standard input, one after the other. Each is preceded by its length, 16-bit, low byte first, at most 4,000; the
 // length FFFFh ends them.
+#![tactic(auto)]
+
 ghost use Rattle.std.specs.Prelude.{◌<◌};
 
 use libc::STDIN_FILENO;

@@ -1,4 +1,6 @@
 // What the list program writes for a sheet.
+#![tactic(auto)]
+
 ghost use Rattle.std.specs.Prelude.{◌≡◌, ◌≤◌, length};
 ghost use Rattle.base_types.specs.Refusal.{number_of};
 ghost use Rattle.chip_memory.specs.Page.{copied};

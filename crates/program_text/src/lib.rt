@@ -1,4 +1,6 @@
 // What the variation program writes for an answer. `numeral` has how it reads a number.
+#![tactic(auto)]
+
 pub mod numeral;
 
 use base_tenths::Tenths;

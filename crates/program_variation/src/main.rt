@@ -1,4 +1,6 @@
 // The variation at a latitude and a column, the two arguments, of the stored sheet on standard input.
+#![tactic(auto)]
+
 use libc::{STDERR_FILENO, STDIN_FILENO};
 use program_text::numeral;
 use program_text::numeral::{Signed, Unsigned};

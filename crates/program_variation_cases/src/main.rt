@@ -1,6 +1,8 @@
 // Answers the questions on standard input. All numbers have their low byte first. Each sheet is preceded by its length, 16-bit, at most
 // 4,000, and followed by the count of its questions, 16-bit, and by these, a latitude and a column each, both 32-bit. The length FFFFh ends
 // the sheets; pairs of an old and a new value follow, both 32-bit, until the input ends.
+#![tactic(auto)]
+
 ghost use Rattle.std.specs.Prelude.{◌≡◌, ◌<◌};
 ghost use Rattle.std.specs.Int.{w32};
 ghost use Rattle.std.proofs.Common.{to_z};
@@ -8,7 +10,7 @@ ghost use Rattle.std.proofs.Common.{to_z};
 use libc::STDIN_FILENO;
 
 // Two 32-bit numbers, or the end of the input.
-#[derive(Drop)]
+#[derive(Clone, Copy)]
 enum Next {
     End,
     Pair(u32, u32),
