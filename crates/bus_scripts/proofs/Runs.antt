@@ -79,7 +79,7 @@ bytes_runs zero (b ∷ bytes) on l small = absurd (let z : ⊥ = omega arith in 
 bytes_runs (suc k) [] on l small = absurd (let z : ⊥ = omega arith in z)
 bytes_runs (suc k) (b ∷ bytes) on l small =
     rw (more-slots k) at (read-runs 8 b (λ byte. read_bytes k (λ more. on (byte ∷ more))) (small 0)
-    and_then bytes_runs k bytes (λ more. on (b ∷ more)) (omega arith) (λ i. small (suc i)))
+    and-then bytes_runs k bytes (λ more. on (b ∷ more)) (omega arith) (λ i. small (suc i)))
 
 pub crc-runs : (crc : ℕ) (on : Script) → crc < 65536 → Passes (read_crc crc on) (bits_of 16 crc) (reading 16) on
 crc-runs crc on l = simp (eq-eqb crc crc refl) at (read-runs 16 crc (λ got. check (eqb got crc) 6 on) l)

@@ -106,7 +106,7 @@ number_replies number = (false ∷ bits_of 8 0x33) ++ bits_of_bytes number
 number-runs : (number : List ℕ) → length number ≡ 8 → Bytes number → Passes number_script (number_replies number) number_slots (judging number)
 unfolding number_script bits_of_bytes bits_of
 number-runs number eight small =
-    reset_runs and_then send-runs (bits_of_bytes (0x33 ∷ [])) (bits_of 8 0x33) refl and_then bytes_runs 8 number judging eight small
+    reset_runs and-then send-runs (bits_of_bytes (0x33 ∷ [])) (bits_of 8 0x33) refl and-then bytes_runs 8 number judging eight small
 
 module _ (n : ℕ) (whole : n % 8 ≡ 0) (c : Chip) (ok : Ready n c) (small : Bytes c.state.number) where
   abbrev number : List ℕ

@@ -34,8 +34,8 @@ pub visit-runs : (p b : ℕ) (ignored : List Bool) (on : ℕ → Script) → len
     → Passes (visit_script p on) (visit_replies ignored p b) (visit_events p) (on b)
 unfolding visit_script
 visit-runs p b ignored on l small =
-    reset_runs and_then send-runs (bits_of_bytes (0xCC ∷ read_command p)) ignored (l ∙ sym (command-length p)) and_then read-runs 8 b (byte_script p on) small
-    and_then crc-runs (crc_word (read_command p ++ (b ∷ []))) (on b) (word_small (read_command p ++ (b ∷ [])))
+    reset_runs and-then send-runs (bits_of_bytes (0xCC ∷ read_command p)) ignored (l ∙ sym (command-length p)) and-then read-runs 8 b (byte_script p on) small
+    and-then crc-runs (crc_word (read_command p ++ (b ∷ []))) (on b) (word_small (read_command p ++ (b ∷ [])))
 
 pub record Visited (told : Outcome Next) (handed : List ℕ) (p : ℕ) (on : ℕ → Script) (rs : List Bool) (es : List Event) : Type 0 where
   pub ignored : List Bool

@@ -1,9 +1,0 @@
-use borrow.Author.Tests.{ne_eqb}
-use Rattle.bus_events.proofs.event_of.Statement.{statement}
-use Rattle.bus_events.proofs.event_of.Tie as tie
-
-pub event-of-spec : {M : Type 1} → statement M
-event-of-spec =
-    tie.close (tie.spec
-    (λ c. simp c.match.keys1) (λ c. simp c.match.keys2) (λ c. simp c.match.keys3) (λ c. simp c.match.keys4)
-    (λ c. simp (ne_eqb _ _ c.match.rest.1, ne_eqb _ _ c.match.rest.0.1, ne_eqb _ _ c.match.rest.0.0.1, ne_eqb _ _ c.match.rest.0.0.0.1)))

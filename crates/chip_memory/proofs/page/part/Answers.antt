@@ -1,0 +1,5 @@
+use Rattle.chip_memory.proofs.Pages.{part_of}
+use Rattle.chip_memory.proofs.page.part.Goals as goal
+
+pub returns : goal.returns
+returns c = part_of _ _ _ _ c.lesser-start.ensures c.lesser-end.ensures

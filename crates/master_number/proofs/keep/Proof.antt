@@ -1,8 +1,0 @@
-use borrow.Author.Rules.{rules}
-use Rattle.master_number.proofs.keep.Statement.{statement}
-use Rattle.master_number.proofs.keep.Tie as tie
-
-pub keep_spec : {M : Type 1} → statement M
-keep_spec =
-    tie.close (tie.spec
-    (λ c κs. search rules) (λ c. simp c.store.ensures))

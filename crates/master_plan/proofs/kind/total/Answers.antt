@@ -1,0 +1,24 @@
+use native.Mathlib.Omega.{arith}
+use Rattle.master_plan.proofs.Lengths.{few, short}
+use Rattle.master_plan.proofs.kind.total.Goals as goal
+
+pub overflow_mul-result : goal.overflow_mul-result
+overflow_mul-result c = omega (arith, c.one_byte_count.ensures, few c.args.kind.selection, short c.args.kind.mode)
+
+pub overflow_add-result : goal.overflow_add-result
+overflow_add-result c = omega (
+  arith,
+  c.full_page_count.ensures,
+  c.one_byte_count.ensures,
+  few c.args.kind.selection,
+  short c.args.kind.mode,
+)
+
+pub overflow_add-result-2 : goal.overflow_add-result-2
+overflow_add-result-2 c = omega (
+  arith,
+  c.full_page_count.ensures,
+  c.one_byte_count.ensures,
+  few c.args.kind.selection,
+  short c.args.kind.mode,
+)

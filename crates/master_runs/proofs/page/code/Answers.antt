@@ -1,0 +1,14 @@
+use Rattle.master_runs.specs.Calls.{call_code}
+use Rattle.master_runs.proofs.page.code.Goals as goal
+
+pub returns-in-Send : goal.returns-in-Send
+unfolding call_code
+returns-in-Send c = simp c.in-Send.is c.code_of.ensures
+
+pub returns-in-Final : goal.returns-in-Final
+unfolding call_code
+returns-in-Final c = simp c.in-Final.is
+
+pub returns-in-Refused : goal.returns-in-Refused
+unfolding call_code
+returns-in-Refused c = simp c.in-Refused.is

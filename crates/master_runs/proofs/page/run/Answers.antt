@@ -1,0 +1,26 @@
+use mathlib.Core.Path.{sym, ap, ◌∙◌}
+use mathlib.Core.Bool.{◌&&◌}
+use lib.Dec.{eqb}
+use lib.ListN.{length}
+use Rattle.base_types.specs.Outcome.{judged_outcome}
+use Rattle.master_page.specs.PageRead.{page_in_range}
+use Rattle.master_runs.specs.Calls.{are_replies}
+use Rattle.master_runs.specs.Page.{page_fed_judged, page_fed_outcome, page_fed, page_fed_events}
+use Rattle.master_runs.proofs.Judged.{room-beside}
+use Rattle.master_runs.proofs.page.run.Goals as goal
+
+pub feed-requires : goal.feed-requires
+unfolding page_fed_judged page_fed_outcome page_fed page_fed_events
+feed-requires c = let a = c.args in
+    room-beside (page_in_range 64 a.start && are_replies a.replies.now) a.replies.now a.events.now (eqb (length a.buffer.now) 32) (sym c.judge.ensures ∙ ap judged_outcome c.in-Accepted.is)
+
+pub returns-in-Refused : goal.returns-in-Refused
+unfolding page_fed_judged page_fed_outcome page_fed page_fed_events
+returns-in-Refused c = let refused = sym c.judge.ensures ∙ ap judged_outcome c.in-Refused.is in
+    record { state = simp refused; answer = simp refused; events = simp refused }
+
+pub returns-in-Accepted : goal.returns-in-Accepted
+unfolding page_fed_judged page_fed_outcome page_fed page_fed_events
+returns-in-Accepted c = let fed = c.feed.ensures in
+    let accepted = sym c.judge.ensures ∙ ap judged_outcome c.in-Accepted.is in
+    record { state = fed.0 ∙ simp accepted; answer = fed.1.0 ∙ simp accepted; events = fed.1.1 ∙ simp accepted }

@@ -1,0 +1,25 @@
+use mathlib.Core.Path.{sym, ap, ◌∙◌}
+use mathlib.Core.Bool.{◌&&◌}
+use Rattle.base_types.specs.Outcome.{judged_outcome}
+use Rattle.master_publisher.specs.Call.{publisher_in_range}
+use Rattle.master_runs.specs.Calls.{are_replies}
+use Rattle.master_runs.specs.Publisher.{publisher_fed_judged, publisher_fed_outcome, publisher_fed_state, publisher_fed_events}
+use Rattle.master_runs.proofs.Judged.{room}
+use Rattle.master_runs.proofs.publish.run.Goals as goal
+
+pub feed-requires : goal.feed-requires
+unfolding publisher_fed_judged publisher_fed_outcome publisher_fed_state publisher_fed_events
+feed-requires c = let a = c.args in
+    room (publisher_in_range 64 a.start && are_replies a.replies.now) a.replies.now a.events.now (sym c.judge.ensures ∙ ap
+    judged_outcome c.in-Accepted.is)
+
+pub returns-in-Refused : goal.returns-in-Refused
+unfolding publisher_fed_judged publisher_fed_outcome publisher_fed_state publisher_fed_events
+returns-in-Refused c = let refused = sym c.judge.ensures ∙ ap judged_outcome c.in-Refused.is in
+    record { state = simp refused; answer = simp refused; events = simp refused }
+
+pub returns-in-Accepted : goal.returns-in-Accepted
+unfolding publisher_fed_judged publisher_fed_outcome publisher_fed_state publisher_fed_events
+returns-in-Accepted c = let fed = c.feed.ensures in
+    let accepted = sym c.judge.ensures ∙ ap judged_outcome c.in-Accepted.is in
+    record { state = fed.0 ∙ simp accepted; answer = fed.1.0 ∙ simp accepted; events = fed.1.1 ∙ simp accepted }

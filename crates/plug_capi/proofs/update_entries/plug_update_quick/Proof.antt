@@ -1,9 +1,0 @@
-use borrow.Author.Rules.{rules}
-use Rattle.plug_capi.proofs.update_entries.plug_update_quick.Statement.{statement}
-use Rattle.plug_capi.proofs.update_entries.plug_update_quick.Tie as tie
-
-pub plug-update-quick-spec : {M : Type 1} → statement M
-plug-update-quick-spec =
-    tie.close (tie.spec
-    (λ c κs. search rules) (λ c κs. search rules) (λ c. search rules) (λ c. search rules)
-    (λ c. rw c.before.before.before.before.before.before.before.quick.ensures at c.before.before.before.before.update-in.ensures))

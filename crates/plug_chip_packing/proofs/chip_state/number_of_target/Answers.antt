@@ -1,0 +1,10 @@
+use Rattle.plug_chip_packing.specs.Chip.{target_tag}
+use Rattle.plug_chip_packing.proofs.chip_state.number_of_target.Goals as goal
+
+pub returns-in-Data : goal.returns-in-Data
+unfolding target_tag
+returns-in-Data c = simp c.in-Data.is
+
+pub returns-in-Status : goal.returns-in-Status
+unfolding target_tag
+returns-in-Status c = simp c.in-Status.is

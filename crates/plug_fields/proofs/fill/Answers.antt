@@ -1,0 +1,8 @@
+use Rattle.plug_fields.proofs.Laws.{put_both}
+use borrow.Author.Rules.{rules}
+use Rattle.plug_fields.proofs.fill.Goals as goal
+
+pub returns : goal.returns
+returns c = let second = c.copy-2 in
+    let both = put_both c.args.t1 c.args.rest.now c.args.bytes.now c.copy.new.1.0 second.new.1.0 in
+    both (search rules) c.requires c.copy.ensures second.ensures

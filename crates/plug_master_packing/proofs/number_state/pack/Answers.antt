@@ -1,0 +1,14 @@
+use Rattle.plug_master_packing.proofs.Number.{number-packing}
+use Rattle.plug_master_packing.specs.Number.{number_bytes, is_number_state, number_packed, number_buffer}
+use lib.ListN.{length}
+use mathlib.Core.Path.{◌≡◌}
+use borrow.Author.Rules.{rules}
+use Rattle.plug_master_packing.proofs.number_state.pack.Goals as goal
+
+pub returns : goal.returns
+unfolding number_packed number_buffer number_bytes is_number_state
+returns c = let put = c.put in
+    let f = c.front_of in
+    let state = c.args.state in
+    let len : length state.bytes ≡ 8 = search rules in
+    record { answer = rw len at put.ensures.0; bytes = rw (len, f.ensures) at put.ensures.1; back = number-packing.state-back state len; kept = number-packing.state-kept state len }

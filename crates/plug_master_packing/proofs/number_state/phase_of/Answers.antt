@@ -1,0 +1,32 @@
+use borrow.Author.Tests.{ne_eqb}
+use Rattle.plug_master_packing.specs.Number.{phase_of}
+use Rattle.plug_master_packing.proofs.number_state.phase_of.Goals as goal
+
+pub returns-in-1 : goal.returns-in-1
+unfolding phase_of
+returns-in-1 c = rw c.in-1.is
+
+pub returns-in-2 : goal.returns-in-2
+unfolding phase_of
+returns-in-2 c = rw c.in-2.is
+
+pub returns-in-3 : goal.returns-in-3
+unfolding phase_of
+returns-in-3 c = rw c.in-3.is
+
+pub returns-in-4 : goal.returns-in-4
+unfolding phase_of
+returns-in-4 c = rw c.in-4.is
+
+pub returns-in-5 : goal.returns-in-5
+unfolding phase_of
+returns-in-5 c = rw c.in-5.is
+
+pub returns-in-6 : goal.returns-in-6
+unfolding phase_of
+returns-in-6 c = rw (c.in-6.is, c.stop_of.ensures)
+
+pub returns-in_default : goal.returns-in_default
+unfolding phase_of
+returns-in_default c = rw (ne_eqb _ _ c.in_default.in_default-own.rest.0.0.0.0.0.1, ne_eqb _ _ c.in_default.in_default-own.rest.0.0.0.0.1, ne_eqb _ _ c.in_default.in_default-own.rest.0.0.0.1)
+    (rw (ne_eqb _ _ c.in_default.in_default-own.rest.0.0.1, ne_eqb _ _ c.in_default.in_default-own.rest.0.1, ne_eqb _ _ c.in_default.in_default-own.rest.1))

@@ -1,0 +1,19 @@
+use borrow.Author.Tests.{ne_eqb}
+use Rattle.plug_master_packing.specs.Page.{part_of}
+use Rattle.plug_master_packing.proofs.page_state.part_of.Goals as goal
+
+pub returns-in-0 : goal.returns-in-0
+unfolding part_of
+returns-in-0 c = rw c.in-0.is
+
+pub returns-in-1 : goal.returns-in-1
+unfolding part_of
+returns-in-1 c = rw c.in-1.is
+
+pub returns-in-2 : goal.returns-in-2
+unfolding part_of
+returns-in-2 c = rw c.in-2.is
+
+pub returns-in_default : goal.returns-in_default
+unfolding part_of
+returns-in_default c = rw (ne_eqb _ _ c.in_default.in_default-own.rest.0.0.1, ne_eqb _ _ c.in_default.in_default-own.rest.0.1, ne_eqb _ _ c.in_default.in_default-own.rest.1)

@@ -1,9 +1,0 @@
-use borrow.Author.Rules.{rules}
-use Rattle.plug_master_packing.proofs.page_state.state_at.Statement.{statement}
-use Rattle.plug_master_packing.proofs.page_state.state_at.Tie as tie
-
-pub state-at-spec : {M : Type 1} → statement M
-state-at-spec =
-    tie.close (tie.spec
-    (λ c κs. search rules) (λ c. search rules) (λ c. search rules) (λ c κs. search rules)
-    (λ c. simp (c.page-of.ensures, c.before.before.before.phase-of.ensures)))

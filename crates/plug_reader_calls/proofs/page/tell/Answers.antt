@@ -1,0 +1,20 @@
+use Rattle.plug_answers.specs.Answers.{next_answered}
+use Rattle.plug_reader_calls.proofs.page.tell.Goals as goal
+
+pub returns-in-Send : goal.returns-in-Send
+unfolding next_answered
+returns-in-Send c = record { code = simp c.in-Send.is; answer = simp c.in-Send.is c.tell_event.ensures }
+
+pub returns-in-Final : goal.returns-in-Final
+unfolding next_answered
+returns-in-Final c = record { code = simp c.in-Final.is; answer = simp c.in-Final.is c.tell_two.ensures }
+
+pub returns-in-Refused : goal.returns-in-Refused
+unfolding next_answered
+returns-in-Refused c = record {
+  code = simp (c.in-Refused.is, c.refuse.ensures.code);
+  answer = simp (
+    c.in-Refused.is,
+    c.refuse.ensures.answer,
+  );
+}

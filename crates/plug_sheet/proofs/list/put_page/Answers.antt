@@ -1,0 +1,15 @@
+use Rattle.plug_sheet.proofs.Puts.{put-nothing}
+use Rattle.plug_sheet.specs.List.{page_line}
+use mathlib.Core.Path.{sym, ◌∙◌}
+use borrow.Author.Tests.{eq-eqb, ne_eqb}
+use Rattle.plug_sheet.proofs.list.put_page.Goals as goal
+
+pub returns-then-redirection_of : goal.returns-then-redirection_of
+unfolding page_line
+returns-then-redirection_of c = let e = eq-eqb _ _ (sym c.redirection_of.ensures ∙ c.if-redirection_of.true) in
+    simp e (put-nothing c.args.at c.args.text.now)
+
+pub returns : goal.returns
+unfolding page_line
+returns c = let e = ne_eqb _ _ (λ z. c.if-redirection_of.false (c.redirection_of.ensures ∙ z)) in
+    simp (e, ← c.walk.ensures) c.put_line.ensures

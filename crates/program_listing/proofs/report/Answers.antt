@@ -1,0 +1,28 @@
+use Rattle.program_listing.specs.Report.{report_buffer}
+use Rattle.program_listing.proofs.Reports.{report-written, report-refused}
+use Rattle.chip_memory.specs.Page.{copied}
+use Rattle.plug_sheet.specs.List.{room_for, list_outcome}
+use Prim.Native.Nat.{◌≤◌}
+use mathlib.Core.Path.{sym, ap, ap₂, ◌∙◌}
+use lib.ListN.{length}
+use borrow.Author.Rules.{rules}
+use Rattle.program_listing.proofs.report.Goals as goal
+
+pub returns-in-Refused : goal.returns-in-Refused
+unfolding report_buffer
+returns-in-Refused c = let w = c.write in
+    let a = c.args in
+    let room : room_for 64 ≤ length a.text.now = search rules in
+    let r = c.r-1.given.0.0 in
+    let same =
+    report-refused 64 a.sheet.now a.text.now w.new.1.0 room w.ensures.1 r
+    (sym (ap list_outcome c.in-Refused.is) ∙ w.ensures.0) in
+    record { size = c.refusal.ensures.size ∙ ap length same.0; text = c.refusal.ensures.text ∙ ap₂ copied same.0 same.1 }
+
+pub returns-in-Text : goal.returns-in-Text
+unfolding report_buffer
+returns-in-Text c = let w = c.write in
+    let a = c.args in
+    let room : room_for 64 ≤ length a.text.now = search rules in
+    report-written 64 a.sheet.now a.text.now w.new.1.0 room w.ensures.1 c.size-1.given.0.0
+    (sym (ap list_outcome c.in-Text.is) ∙ w.ensures.0)

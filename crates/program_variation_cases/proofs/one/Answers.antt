@@ -1,0 +1,10 @@
+use mathlib.Core.Path.{sym}
+use lib.Seq.{length-take-le}
+use borrow.Author.Rules.{rules}
+use Rattle.program_variation_cases.proofs.one.Goals as goal
+
+pub slice_bounds-read_full-end-2 : goal.slice_bounds-read_full-end-2
+slice_bounds-read_full-end-2 c = sym (length-take-le _ _ c.if-sheet-size.false)
+
+pub slice_bounds-questions-end-2 : goal.slice_bounds-questions-end-2
+slice_bounds-questions-end-2 c = sym (length-take-le _ _ (search rules))
