@@ -20,7 +20,7 @@ loop-e-init c = let a = c.args in
     let sized = image-length 64 a.image.now c.requires.0 in
     let inside = page-below 64 a.page c.requires.2 in
     let small : Bytes a.image.now = λ i. (c.type_inv.image i).fits in
-    let eight = c.well-formed.1.0.1.0.1 in (
+    let eight = c.well_formed.1.0.1.0.1 in (
       begins-as a.number a.image.now a.buffer.now a.page sized small eight inside c.requires.1 _ _ c.start-started.ensures.state
           c.power_up-chip.ensures,
       refl,
@@ -35,15 +35,15 @@ overflow_add-events c = let l = c.loop-e in
 pub loop-e-smaller : goal.loop-e-smaller
 loop-e-smaller c = let l = c.loop-e in
     let call = c.call-called in
-    omega (arith, more _ _ _ _ _ _ _ l.invariant.0 _ (sym call.ensures.0 ∙ ap read_outcome c.in-Send.is))
+    omega (arith, more _ _ _ _ _ _ _ l.invariant.0 _ (sym c.call-called.ensures.answer ∙ ap read_outcome c.in-Send.is))
 
 pub loop-e-preserved : goal.loop-e-preserved
 loop-e-preserved c = let l = c.loop-e in
     let call = c.call-called in
     let ev = c.event-stepped in (
-      turned _ _ _ _ _ _ _ l.invariant.0 _ (sym call.ensures.0 ∙ ap read_outcome c.in-Send.is) _ _ _
-          (ap₂ held call.ensures.1.0 call.ensures.1.1) (ap₂ chip_of ev.ensures.1.0 ev.ensures.1.1)
-          (c.line_drawn-reply.ensures ∙ ap line_of ev.ensures.0),
+      turned _ _ _ _ _ _ _ l.invariant.0 _ (sym c.call-called.ensures.answer ∙ ap read_outcome c.in-Send.is) _ _ _
+          (ap₂ held c.call-called.ensures.state c.call-called.ensures.buffer) (ap₂ chip_of c.event-stepped.ensures.state c.event-stepped.ensures.image)
+          (c.line_drawn-reply.ensures ∙ ap line_of c.event-stepped.ensures.answer),
       ev.auto.1.1.0 ∙ l.invariant.1,
       call.auto.1.1.0 ∙ l.invariant.2,
       l.invariant.3,
@@ -58,8 +58,7 @@ shape_of-buffer-in-Final c = c.call-called.auto.1.1.0 ∙ c.loop-e.invariant.2
 pub returns-in-Final : goal.returns-in-Final
 returns-in-Final c = let l = c.loop-e in
     let call = c.call-called in
-    let e = ended _ _ _ _ _ _ _ l.invariant.0 _ (sym call.ensures.0 ∙ ap read_outcome c.in-Final.is) refl in
-    record { end = e.ends; events = e.all; buffer = call.ensures.1.1 ∙ e.handed; image = e.kept }
+    let e = ended _ _ _ _ _ _ _ l.invariant.0 _ (sym c.call-called.ensures.answer ∙ ap read_outcome c.in-Final.is) refl in record { end = e.ends; events = e.all; buffer = c.call-called.ensures.buffer ∙ e.handed; image = e.kept }
 
 pub shape_of-image-in-Refused : goal.shape_of-image-in-Refused
 shape_of-image-in-Refused c = c.loop-e.invariant.1
@@ -70,5 +69,4 @@ shape_of-buffer-in-Refused c = c.call-called.auto.1.1.0 ∙ c.loop-e.invariant.2
 pub returns-in-Refused : goal.returns-in-Refused
 returns-in-Refused c = let l = c.loop-e in
     let call = c.call-called in
-    let e = ended _ _ _ _ _ _ _ l.invariant.0 _ (sym call.ensures.0 ∙ ap read_outcome c.in-Refused.is) refl in
-    record { end = e.ends; events = e.all; buffer = call.ensures.1.1 ∙ e.handed; image = e.kept }
+    let e = ended _ _ _ _ _ _ _ l.invariant.0 _ (sym c.call-called.ensures.answer ∙ ap read_outcome c.in-Refused.is) refl in record { end = e.ends; events = e.all; buffer = c.call-called.ensures.buffer ∙ e.handed; image = e.kept }

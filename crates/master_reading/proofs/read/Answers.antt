@@ -11,12 +11,9 @@ join-requires c = let h = all_hold _ _ _ (sym (ap judged_outcome c.in-Accepted.i
 pub returns-in-Refused : goal.returns-in-Refused
 returns-in-Refused c = let a = c.args in
     let is = sym (ap judged_outcome c.in-Refused.is) ∙ c.judge.ensures in
-    let e = when-refused 64 a.image.now a.page.0 a.buffer.now c.refusal-1.given.0.0 is in
-    record { end = e.0; events = e.1.0; buffer = e.1.1; image = refl }
+    let e = when-refused 64 a.image.now a.page.0 a.buffer.now c.refusal-1.given.0.0 is in record { end = e.0; events = e.1.0; buffer = e.1.1; image = refl }
 
 pub returns-in-Accepted : goal.returns-in-Accepted
 returns-in-Accepted c = let a = c.args in
-    let j = c.join.ensures in
     let is = sym (ap judged_outcome c.in-Accepted.is) ∙ c.judge.ensures in
-    let e = when-accepted 64 a.image.now a.page.0 a.buffer.now is in
-    record { end = j.0 ∙ e.0; events = j.1.0 ∙ e.1.0; buffer = j.1.1.0 ∙ e.1.1; image = j.1.1.1 }
+    let e = when-accepted 64 a.image.now a.page.0 a.buffer.now is in record { end = c.join.ensures.end ∙ e.0; events = c.join.ensures.events ∙ e.1.0; buffer = c.join.ensures.buffer ∙ e.1.1; image = c.join.ensures.image }

@@ -4,5 +4,4 @@ use Rattle.master_update.proofs.call_once.Goals as goal
 
 pub returns : goal.returns
 unfolding called image_called
-returns c = let e = c.call-stepped.ensures in
-    record { joined = c.hand_on.ensures.joined ∙ simp (e.0, e.1); image = c.hand_on.ensures.image ∙ simp (e.0, e.1) }
+returns c = record { joined = c.hand_on.ensures.joined ∙ simp (c.call-stepped.ensures.answer, c.call-stepped.ensures.state); image = c.hand_on.ensures.image ∙ simp (c.call-stepped.ensures.answer, c.call-stepped.ensures.state) }

@@ -11,12 +11,9 @@ returns-then-not-is_image c = let short = sym c.is_image.ensures ∙ c.if-not-is
 pub returns-in-Refused : goal.returns-in-Refused
 unfolding events_answer events_state events_image events_replies
 returns-in-Refused c = let sized = sym c.is_image.ensures ∙ c.if-not-is_image.false in
-    let none = sym c.unpack-unpacked.ensures.judged ∙ ap judged_outcome c.in-Refused.is in
-    record { code = simp (sized, none) c.number.ensures; state = simp (sized, none); image = simp (sized, none); replies = simp (sized, none) }
+    let none = sym c.unpack-unpacked.ensures.judged ∙ ap judged_outcome c.in-Refused.is in record { code = simp (sized, none) c.number.ensures; state = simp (sized, none); image = simp (sized, none); replies = simp (sized, none) }
 
 pub returns-in-Accepted : goal.returns-in-Accepted
 unfolding events_answer events_state events_image events_replies
 returns-in-Accepted c = let sized = sym c.is_image.ensures ∙ c.if-not-is_image.false in
-    let unpack = c.unpack-unpacked.ensures in
-    let some = sym unpack.0 ∙ ap judged_outcome c.in-Accepted.is in
-    let run = c.run_state.ensures in record { code = run.0 ∙ simp (sized, some, unpack.1); state = run.1.0 ∙ simp (sized, some, unpack.1); image = run.1.1.0 ∙ simp (sized, some, unpack.1); replies = run.1.1.1 ∙ simp (sized, some, unpack.1) }
+    let some = sym c.unpack-unpacked.ensures.judged ∙ ap judged_outcome c.in-Accepted.is in record { code = c.run_state.ensures.code ∙ simp (sized, some, c.unpack-unpacked.ensures.state); state = c.run_state.ensures.state ∙ simp (sized, some, c.unpack-unpacked.ensures.state); image = c.run_state.ensures.image ∙ simp (sized, some, c.unpack-unpacked.ensures.state); replies = c.run_state.ensures.replies ∙ simp (sized, some, c.unpack-unpacked.ensures.state) }

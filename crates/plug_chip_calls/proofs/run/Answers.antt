@@ -30,14 +30,13 @@ returns-then-not-is_number c = record {
 pub returns : goal.returns
 unfolding whole_answer whole_image whole_replies
 returns c = let a = c.args in
-    let run = c.run-ran.ensures in
     let eight = sym c.is_number.ensures ∙ c.if-not-is_number.false in
     let begins = c.power_up.ensures ∙ ap power_up c.eight_of.ensures in record {
       code = c.code-2.ensures
           ∙ ap (λ (t : Outcome Done). code_in t)
-          (run.0
+          (c.run-ran.ensures.answer
           ∙ ap (λ (s : State). run_answer 64 s a.events.now a.image.now a.replies.now) begins
           ∙ whole-judged a.number.now a.events.now a.image.now a.replies.now eight);
-      image = simp eight (run.1.1.0 ∙ ap (λ (s : State). (ran_chip 64 s a.events.now a.image.now a.replies.now).image) begins);
-      replies = simp eight (run.1.1.1 ∙ ap (λ (s : State). ran_replies 64 s a.events.now a.image.now a.replies.now) begins);
+      image = simp eight (c.run-ran.ensures.image ∙ ap (λ (s : State). (ran_chip 64 s a.events.now a.image.now a.replies.now).image) begins);
+      replies = simp eight (c.run-ran.ensures.replies ∙ ap (λ (s : State). ran_replies 64 s a.events.now a.image.now a.replies.now) begins);
     }

@@ -9,26 +9,26 @@ returns c = record {
   code = c.keep.ensures.code ∙ simp (
     c.run-ran.ensures.answer,
     c.run-ran.ensures.state,
-    c.run-ran.ensures.image.0,
-    c.run-ran.ensures.image.1,
+    c.run-ran.ensures.image,
+    c.run-ran.ensures.replies,
   );
   state = simp (
     c.keep.ensures.state,
     c.run-ran.ensures.answer,
     c.run-ran.ensures.state,
-    c.run-ran.ensures.image.0,
-    c.run-ran.ensures.image.1,
+    c.run-ran.ensures.image,
+    c.run-ran.ensures.replies,
   );
   image = simp (
     c.run-ran.ensures.answer,
     c.run-ran.ensures.state,
-    c.run-ran.ensures.image.0,
-    c.run-ran.ensures.image.1,
+    c.run-ran.ensures.image,
+    c.run-ran.ensures.replies,
   );
   replies = simp (
     c.run-ran.ensures.answer,
     c.run-ran.ensures.state,
-    c.run-ran.ensures.image.0,
-    c.run-ran.ensures.image.1,
+    c.run-ran.ensures.image,
+    c.run-ran.ensures.replies,
   );
 }

@@ -4,5 +4,5 @@ use Rattle.plug_fields.proofs.fill.Goals as goal
 
 pub returns : goal.returns
 returns c = let second = c.copy-2 in
-    let both = put_both c.args.t1 c.args.rest.now c.args.bytes.now c.copy.new.1.0 second.new.1.0 in
-    both (search rules) c.requires c.copy.ensures second.ensures
+    let both = put_both c.args.front c.args.rest.now c.args.bytes.now c.copy.new.buffer c.copy-2.new.buffer in
+    both (search rules) c.requires c.copy.ensures c.copy-2.ensures

@@ -15,14 +15,12 @@ returns-in-Refused c = let w = c.write in
     let room : room_for 64 ≤ length a.text.now = search rules in
     let r = c.r-1.given.0.0 in
     let same =
-    report-refused 64 a.sheet.now a.text.now w.new.1.0 room w.ensures.1 r
-    (sym (ap list_outcome c.in-Refused.is) ∙ w.ensures.0) in
-    record { size = c.refusal.ensures.size ∙ ap length same.0; text = c.refusal.ensures.text ∙ ap₂ copied same.0 same.1 }
+    report-refused 64 a.sheet.now a.text.now c.write.new.text room c.write.ensures.text r
+    (sym (ap list_outcome c.in-Refused.is) ∙ c.write.ensures.answer) in record { size = c.refusal.ensures.size ∙ ap length same.0; text = c.refusal.ensures.text ∙ ap₂ copied same.0 same.1 }
 
 pub returns-in-Text : goal.returns-in-Text
 unfolding report_buffer
 returns-in-Text c = let w = c.write in
     let a = c.args in
-    let room : room_for 64 ≤ length a.text.now = search rules in
-    report-written 64 a.sheet.now a.text.now w.new.1.0 room w.ensures.1 c.size-1.given.0.0
-    (sym (ap list_outcome c.in-Text.is) ∙ w.ensures.0)
+    let room : room_for 64 ≤ length a.text.now = search rules in let proved = report-written 64 a.sheet.now a.text.now c.write.new.text room c.write.ensures.text c.size-1.given.0.0
+    (sym (ap list_outcome c.in-Text.is) ∙ c.write.ensures.answer) in record { size = proved.0; text = proved.1 }

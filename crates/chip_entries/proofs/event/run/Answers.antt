@@ -11,19 +11,15 @@ use Rattle.chip_entries.proofs.event.run.Goals as goal
 
 pub run_within-next-requires : goal.run_within-next-requires
 unfolding run_answer
-run_within-next-requires c = let right = in_order_lem _ _ _ (sym (ap judged_outcome (sym c.in-Accepted.is) ∙ c.judge.ensures)) in
-    record { image_value = right.0; start_value = and_left _ _ right.1.0; replies_len = eqb-true _ _ right.1.1 }
+run_within-next-requires c = let right = in_order_lem _ _ _ (sym (ap judged_outcome (sym c.in-Accepted.is) ∙ c.judge.ensures)) in record { image_value = right.0; start_value = and_left _ _ right.1.0; replies_len = eqb-true _ _ right.1.1 }
 
 pub returns-in-Refused : goal.returns-in-Refused
 unfolding run_answer
-returns-in-Refused c = let judged = c.judge.ensures in
-    refused-run 64 _ _ _ _ (sym (ap judged_outcome (sym c.in-Refused.is) ∙ judged ∙ simp c.are_events.ensures))
+returns-in-Refused c = let judged = c.judge.ensures in let proved = refused-run 64 _ _ _ _ (sym (ap judged_outcome (sym c.in-Refused.is) ∙ judged ∙ simp c.are_events.ensures)) in record { answer = proved.0; state = proved.1.0; image = proved.1.1.0; replies = proved.1.1.1 }
 
 pub returns-in-Accepted : goal.returns-in-Accepted
 unfolding run_answer
 returns-in-Accepted c = let judged = c.judge.ensures in
-    let ran = c.run_within-next.ensures in
     let told = c.in-Accepted.is in
-    let events = c.are_events.ensures in
-    accepted-run 64 _ _ _ _ (sym (ap judged_outcome (sym told) ∙ judged ∙ simp events))
-    _ _ _ ran.0 ran.1
+    let events = c.are_events.ensures in let proved = accepted-run 64 _ _ _ _ (sym (ap judged_outcome (sym told) ∙ judged ∙ simp events))
+    _ _ _ c.run_within-next.ensures.chip c.run_within-next.ensures.replies in record { answer = proved.0; state = proved.1.0; image = proved.1.1.0; replies = proved.1.1.1 }

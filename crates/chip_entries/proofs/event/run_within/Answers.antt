@@ -13,7 +13,7 @@ use borrow.Author.Rules.{rules}
 use Rattle.chip_entries.proofs.event.run_within.Goals as goal
 
 pub loop-i-init : goal.loop-i-init
-loop-i-init c = (search rules, refl, refl, c.requires.1.1, record { sized = c.requires.0; ranged = c.requires.1.0; left = refl; lines = refl })
+loop-i-init c = (search rules, refl, refl, c.requires.replies_len, record { sized = c.requires.image_value; ranged = c.requires.start_value; left = refl; lines = refl })
 
 pub bounds-replies-i : goal.bounds-replies-i
 bounds-replies-i c = omega (arith, c.loop-i.invariant.3)
@@ -25,16 +25,15 @@ pub loop-i-preserved : goal.loop-i-preserved
 loop-i-preserved c = let l = c.loop-i in
     let taken = c.loop-i-test.true in
     let args = c.args in
-    let e = c.event_of-e.ensures in
-    let advanced = c.advance-stage.ensures in (
+    let e = c.event_of-e.ensures in (
       omega arith,
       c.advance-stage.auto.1.1.1.1.0 ∙ l.invariant.1,
       length-set l.replies l.i _ ∙ l.invariant.2,
       length-set l.replies l.i _ ∙ l.invariant.3,
       midway 64 refl _ args.codes.now l.replies l.i l.stage args.number l.image taken (omega (arith, l.invariant.3)) l.invariant.4
           _ _ _
-          (advanced.0 ∙ ap (λ (x : Event). image_after 64 l.stage x l.image) e)
-          (advanced.1 ∙ ap (λ (x : Event). stage_after 64 l.stage x args.number c.advance-stage.new.1.1.1.1.0) e)
+          (c.advance-stage.ensures.image ∙ ap (λ (x : Event). image_after 64 l.stage x l.image) e)
+          (c.advance-stage.ensures.stage ∙ ap (λ (x : Event). stage_after 64 l.stage x args.number c.advance-stage.new.image) e)
           (c.byte.ensures
           ∙ ap one (c.reply.ensures ∙ ap (λ (x : Event). reply_of l.stage x args.number) e)),
     )
@@ -46,4 +45,4 @@ pub shape_of-replies : goal.shape_of-replies
 shape_of-replies c = c.loop-i.invariant.2
 
 pub returns : goal.returns
-returns c = arrived 64 _ c.args.codes.now c.loop-i.replies c.loop-i.i _ (omega arith) (omega (arith, c.loop-i.invariant.3)) c.loop-i.invariant.4
+returns c = let proved = arrived 64 _ c.args.codes.now c.loop-i.replies c.loop-i.i _ (omega arith) (omega (arith, c.loop-i.invariant.3)) c.loop-i.invariant.4 in record { chip = proved.0; replies = proved.1 }

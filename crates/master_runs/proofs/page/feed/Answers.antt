@@ -27,8 +27,8 @@ loop-i-preserved c = let l = c.loop-i in
       step.auto.1.1.0 ∙ l.invariant.3,
       midway (page_called 64) (page_told 64) _ args.replies.now _ l.i (page_held l.state l.buffer) _ l.events (omega arith) l.invariant.4
           _ _ _
-          (ap₂ page_held step.ensures.1.0 step.ensures.1.1)
-          step.ensures.0
+          (ap₂ page_held c.call-stepped.ensures.state c.call-stepped.ensures.buffer)
+          c.call-stepped.ensures.answer
           (ap (λ (x : ℕ). set l.events l.i x) c.code.ensures),
     )
 
@@ -39,4 +39,4 @@ pub shape_of-buffer : goal.shape_of-buffer
 shape_of-buffer c = c.loop-i.invariant.3
 
 pub returns : goal.returns
-returns c = arrived (page_called 64) (page_told 64) _ c.args.replies.now _ c.loop-i.i _ _ c.loop-i.events (omega arith) c.loop-i.invariant.2 c.loop-i.invariant.4
+returns c = let proved = arrived (page_called 64) (page_told 64) _ c.args.replies.now _ c.loop-i.i _ _ c.loop-i.events (omega arith) c.loop-i.invariant.2 c.loop-i.invariant.4 in record { state = proved.0; answer = proved.1.0; events = proved.1.1 }

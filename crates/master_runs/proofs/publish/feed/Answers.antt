@@ -25,8 +25,8 @@ loop-i-preserved c = let l = c.loop-i in
       l.invariant.2,
       midway (call_state 64) (call_answer 64) _ args.replies.now _ l.i l.state _ l.events (omega arith) l.invariant.3
           _ _ _
-          called.ensures.1
-          called.ensures.0
+          c.call-stepped.ensures.state
+          c.call-stepped.ensures.answer
           (ap (λ (x : ℕ). set l.events l.i x) c.code.ensures),
     )
 
@@ -34,4 +34,4 @@ pub shape_of-events : goal.shape_of-events
 shape_of-events c = c.loop-i.invariant.1
 
 pub returns : goal.returns
-returns c = arrived (call_state 64) (call_answer 64) _ c.args.replies.now _ c.loop-i.i c.loop-i.state _ c.loop-i.events (omega arith) c.loop-i.invariant.2 c.loop-i.invariant.3
+returns c = let proved = arrived (call_state 64) (call_answer 64) _ c.args.replies.now _ c.loop-i.i c.loop-i.state _ c.loop-i.events (omega arith) c.loop-i.invariant.2 c.loop-i.invariant.3 in record { state = proved.0; answer = proved.1.0; events = proved.1.1 }

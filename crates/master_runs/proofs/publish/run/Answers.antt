@@ -15,11 +15,8 @@ feed-requires c = let a = c.args in
 
 pub returns-in-Refused : goal.returns-in-Refused
 unfolding publisher_fed_judged publisher_fed_outcome publisher_fed_state publisher_fed_events
-returns-in-Refused c = let refused = sym c.judge.ensures ∙ ap judged_outcome c.in-Refused.is in
-    record { state = simp refused; answer = simp refused; events = simp refused }
+returns-in-Refused c = let refused = sym c.judge.ensures ∙ ap judged_outcome c.in-Refused.is in record { state = simp refused; answer = simp refused; events = simp refused }
 
 pub returns-in-Accepted : goal.returns-in-Accepted
 unfolding publisher_fed_judged publisher_fed_outcome publisher_fed_state publisher_fed_events
-returns-in-Accepted c = let fed = c.feed.ensures in
-    let accepted = sym c.judge.ensures ∙ ap judged_outcome c.in-Accepted.is in
-    record { state = fed.0 ∙ simp accepted; answer = fed.1.0 ∙ simp accepted; events = fed.1.1 ∙ simp accepted }
+returns-in-Accepted c = let accepted = sym c.judge.ensures ∙ ap judged_outcome c.in-Accepted.is in record { state = c.feed.ensures.state ∙ simp accepted; answer = c.feed.ensures.answer ∙ simp accepted; events = c.feed.ensures.events ∙ simp accepted }

@@ -7,5 +7,4 @@ use Rattle.plug_image_calls.specs.Lookup.{sheet_variation_values}
 use Rattle.plug_capi.proofs.lookup_entries.plug_sheet_variation.Goals as goal
 
 pub returns : goal.returns
-returns c = let told = c.sheet_variation.ensures in
-    let same = to_z-of_z w32 c.args.latitude c.ranges.latitude in record { code = told.0 ∙ ap (λ (v : ℤ). code_in (sheet_variation_values 64 c.args.sheet.now v c.args.column c.args.answer.now)) same; answer = told.1 ∙ ap (λ (v : ℤ). answered (sheet_variation_values 64 c.args.sheet.now v c.args.column c.args.answer.now) c.args.answer.now) same }
+returns c = let same = to_z-of_z w32 c.args.latitude c.ranges.latitude in record { code = c.sheet_variation.ensures.code ∙ ap (λ (v : ℤ). code_in (sheet_variation_values 64 c.args.sheet.now v c.args.column c.args.answer.now)) same; answer = c.sheet_variation.ensures.answer ∙ ap (λ (v : ℤ). answered (sheet_variation_values 64 c.args.sheet.now v c.args.column c.args.answer.now) c.args.answer.now) same }

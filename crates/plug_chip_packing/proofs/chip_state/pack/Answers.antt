@@ -10,5 +10,4 @@ unfolding chip_packed chip_buffer chip_bytes is_chip_state
 returns c = let put = c.put in
     let f = c.front_of in
     let state = c.args.state in
-    let len : length state.number ≡ 8 = search rules in
-    record { answer = rw len at put.ensures.0; bytes = rw (len, f.ensures) at put.ensures.1; back = chip-packing.state-back state len; kept = chip-packing.state-kept state len }
+    let len : length state.number ≡ 8 = search rules in record { answer = rw len at c.put.ensures.answer; bytes = rw (len, c.front_of.ensures) at c.put.ensures.bytes; back = chip-packing.state-back state len; kept = chip-packing.state-kept state len }

@@ -7,9 +7,8 @@ use Rattle.plug_image_calls.proofs.Pages.{copy-same, copied-same}
 use Rattle.plug_image_calls.proofs.image.page.Goals as goal
 
 pub returns : goal.returns
-returns c = let a = c.args in
-    let copy = c.copy.ensures in record {
-      code = c.code.ensures ∙ ap (λ (t : Outcome Done). code_in t)
-          (copy.0 ∙ ap (λ (q : ℕ). copy_answer 64 a.image.now q a.buffer.now) c.page.ensures ∙ copy-same a.image.now a.buffer.now a.page);
-      buffer = copy.1 ∙ ap (λ (q : ℕ). copy_buffer 64 a.image.now q a.buffer.now) c.page.ensures ∙ copied-same a.image.now a.buffer.now a.page;
-    }
+returns c = let a = c.args in record {
+  code = c.code.ensures ∙ ap (λ (t : Outcome Done). code_in t)
+      (c.copy.ensures.answer ∙ ap (λ (q : ℕ). copy_answer 64 a.image.now q a.buffer.now) c.page.ensures ∙ copy-same a.image.now a.buffer.now a.page);
+  buffer = c.copy.ensures.buffer ∙ ap (λ (q : ℕ). copy_buffer 64 a.image.now q a.buffer.now) c.page.ensures ∙ copied-same a.image.now a.buffer.now a.page;
+}

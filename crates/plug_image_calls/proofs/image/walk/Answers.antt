@@ -15,8 +15,7 @@ returns-then-not-is_image c = let short = sym c.is_image.ensures ∙ c.if-not-is
 pub returns-then-not-is_answer : goal.returns-then-not-is_answer
 unfolding answered walk_values
 returns-then-not-is_answer c = let sized = sym c.is_image.ensures ∙ c.if-not-is_image.false in
-    let none = sym c.is_answer.ensures ∙ c.if-not-is_answer.true in
-    record { code = simp (sized, none); answer = simp (sized, none) }
+    let none = sym c.is_answer.ensures ∙ c.if-not-is_answer.true in record { code = simp (sized, none); answer = simp (sized, none) }
 
 pub returns : goal.returns
 unfolding answered walk_values

@@ -13,8 +13,7 @@ use Rattle.plug_image_calls.proofs.lookup.sheet_variation.Goals as goal
 
 pub returns-then-not-is_answer : goal.returns-then-not-is_answer
 unfolding answered sheet_variation_values
-returns-then-not-is_answer c = let short = sym c.is_answer.ensures ∙ c.if-not-is_answer.true in
-    record { code = simp short; answer = simp short }
+returns-then-not-is_answer c = let short = sym c.is_answer.ensures ∙ c.if-not-is_answer.true in record { code = simp short; answer = simp short }
 
 pub returns : goal.returns
 unfolding answered sheet_variation_values

@@ -16,10 +16,8 @@ returns-then-not-is_number c = let sized = sym c.is_image.ensures ∙ c.if-not-i
 pub returns : goal.returns
 unfolding read_image read_number sheet_read
 returns c = let args = c.args in
-    let handed = c.hand_on.ensures in
     let law =
     handed-on 64 args.sheet.now args.number.now args.image.now
     (sym c.is_number.ensures ∙ c.if-not-is_number.false)
     (sym c.is_image.ensures ∙ c.if-not-is_image.false)
-    _ c.judge.ensures in
-    record { code = handed.0 ∙ law.0; number = handed.1.0 ∙ law.1.0; image = handed.1.1 ∙ law.1.1 }
+    _ c.judge.ensures in record { code = c.hand_on.ensures.code ∙ law.0; number = c.hand_on.ensures.number ∙ law.1.0; image = c.hand_on.ensures.image ∙ law.1.1 }

@@ -16,6 +16,4 @@ returns-then-not-is_number c = let sized = sym c.is_image.ensures ∙ c.if-not-i
 pub returns : goal.returns
 unfolding sheet_buffer sheet_written write_buffer
 returns c = let sized = sym c.is_image.ensures ∙ c.if-not-is_image.false in
-    let eight = sym c.is_number.ensures ∙ c.if-not-is_number.false in
-    let write = c.write.ensures in
-    record { code = simp (sized, eight, c.code.ensures, write.0); sheet = simp (sized, eight) (write.1 ∙ simp c.eight_of.ensures) }
+    let eight = sym c.is_number.ensures ∙ c.if-not-is_number.false in record { code = simp (sized, eight, c.code.ensures, c.write.ensures.answer); sheet = simp (sized, eight) (c.write.ensures.sheet ∙ simp c.eight_of.ensures) }

@@ -31,5 +31,5 @@ overflow_cast-result c = cast-if1 c
 pub returns : goal.returns
 unfolding covers
 returns c = let a = c.args in
-    ap₂ lt_z (latitude-is c) (to_z-of_z w64 c.lower_edge-2.result (record { sfits = c.lower_edge-2.type-inv }) ∙ c.lower_edge-2.ensures)
+    ap₂ lt_z (latitude-is c) (to_z-of_z w64 c.lower_edge-2.result (record { sfits = c.lower_edge-2.type_inv }) ∙ c.lower_edge-2.ensures)
     ∙ simp (not-lt-le a.latitude (lower_edge a.header.now a.i) (sym (ap₂ lt_z (latitude-is c) (edge-is c)) ∙ c.if-lower_edge-latitude.false))

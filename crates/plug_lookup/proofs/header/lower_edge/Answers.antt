@@ -23,13 +23,13 @@ pub overflow_mul-above : goal.overflow_mul-above
 overflow_mul-above c = record { fits = omega (arith, above-below c) }
 
 pub overflow_cast-result : goal.overflow_cast-result
-overflow_cast-result c = rw (to_z-of_z w32 c.edge.result (record { sfits = c.edge.type-inv })) (record { sfits = omega (arith, c.edge.type-inv) })
+overflow_cast-result c = rw (to_z-of_z w32 c.edge.result (record { sfits = c.edge.type_inv })) (record { sfits = omega (arith, c.edge.type_inv) })
 
 pub overflow_cast-result-2 : goal.overflow_cast-result-2
 overflow_cast-result-2 c = record { sfits = omega (arith, above-below c) }
 
 pub overflow_add-result : goal.overflow_add-result
-overflow_add-result c = rw (edge-is c, above-is c) (record { sfits = omega (arith, sum_below c.edge.result (c.args.i * c.height.result) c.edge.type-inv (above-below c)) })
+overflow_add-result c = rw (edge-is c, above-is c) (record { sfits = omega (arith, sum_below c.edge.result (c.args.i * c.height.result) c.edge.type_inv (above-below c)) })
 
 pub returns : goal.returns
 unfolding lower_edge

@@ -10,5 +10,4 @@ unfolding number_packed number_buffer number_bytes is_number_state
 returns c = let put = c.put in
     let f = c.front_of in
     let state = c.args.state in
-    let len : length state.bytes ≡ 8 = search rules in
-    record { answer = rw len at put.ensures.0; bytes = rw (len, f.ensures) at put.ensures.1; back = number-packing.state-back state len; kept = number-packing.state-kept state len }
+    let len : length state.bytes ≡ 8 = search rules in record { answer = rw len at c.put.ensures.answer; bytes = rw (len, c.front_of.ensures) at c.put.ensures.bytes; back = number-packing.state-back state len; kept = number-packing.state-kept state len }

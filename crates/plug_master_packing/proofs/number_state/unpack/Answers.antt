@@ -15,5 +15,4 @@ returns c = let b = c.args.bytes.now in
     let len = c.if-bytes-ne24.false in
     let all = c.both.ensures in
     let zeros = c.zeros.ensures in
-    let own = c.phase_own-own.ensures in
-    record { judged = c.judge.ensures ∙ simp (all, zeros, own, number-judged b len); state = c.state_at.ensures ∙ simp (number-held b len) }
+    let own = c.phase_own-own.ensures in record { judged = c.judge.ensures ∙ simp (all, zeros, own, number-judged b len); state = c.state_at.ensures ∙ simp (number-held b len) }

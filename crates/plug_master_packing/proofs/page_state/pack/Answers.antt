@@ -13,5 +13,4 @@ returns c = let put = c.put in
     let state = c.args.state in
     let enum = phase_bytes state.phase in
     let len : length state.bytes ≡ 32 = search rules in
-    let filled = rw (len, f.ensures, stored 8 0 state.page.0 enum _, stored 8 1 state.hops enum _) at put.ensures.1 in
-    record { answer = rw len at put.ensures.0; bytes = filled; back = page-packing.state-back state len; kept = page-packing.state-kept state len }
+    let filled = rw (len, c.front_of-front.ensures, stored 8 0 state.page.0 enum _, stored 8 1 state.hops enum _) at c.put.ensures.bytes in record { answer = rw len at c.put.ensures.answer; bytes = filled; back = page-packing.state-back state len; kept = page-packing.state-kept state len }

@@ -15,6 +15,5 @@ returns c = let put = c.put in
     let enum = stage_bytes state.stage in
     let len : length state.new ≡ 32 = search rules in
     let mode = c.number_of_mode.ensures in
-    let pages = rw (len, f.ensures, stored 8 0 state.superseded.0 enum _, stored 8 1 state.target.0 enum _) at put.ensures.1 in
-    let filled = rw (stored 8 2 state.used enum _, mode, stored 8 3 (mode_byte state.kind.mode) enum _) at pages in
-    record { answer = rw len at put.ensures.0; bytes = filled; back = publisher-packing.state-back state len; kept = publisher-packing.state-kept state len }
+    let pages = rw (len, c.front_of-front.ensures, stored 8 0 state.superseded.0 enum _, stored 8 1 state.target.0 enum _) at c.put.ensures.bytes in
+    let filled = rw (stored 8 2 state.used enum _, mode, stored 8 3 (mode_byte state.kind.mode) enum _) at pages in record { answer = rw len at c.put.ensures.answer; bytes = filled; back = publisher-packing.state-back state len; kept = publisher-packing.state-kept state len }

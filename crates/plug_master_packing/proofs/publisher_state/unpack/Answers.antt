@@ -16,5 +16,4 @@ returns c = let b = c.args.bytes.now in
     let all = c.both.ensures in
     let zeros = c.zeros.ensures in
     let mode = c.both-own.ensures in
-    let own = c.stage_own.ensures in
-    record { judged = c.judge.ensures ∙ simp (all, zeros, mode, own, publisher-judged b len); state = c.state_at.ensures ∙ simp (publisher-held b len) }
+    let own = c.stage_own.ensures in record { judged = c.judge.ensures ∙ simp (all, zeros, mode, own, publisher-judged b len); state = c.state_at.ensures ∙ simp (publisher-held b len) }

@@ -8,16 +8,11 @@ use Rattle.plug_publisher_calls.proofs.publisher.call.Goals as goal
 pub returns-in-Refused : goal.returns-in-Refused
 unfolding publisher_call_outcome publisher_call_state publisher_call_told next_answered
 returns-in-Refused c = let a = c.args in
-    let unpack = c.unpack-unpacked.ensures in
     let judged = sym (c.judge_call-judged.ensures ∙ publisher-call a.state.now a.reply
-    a.answer.now unpack.0 unpack.1 c.in_range.ensures) ∙ ap judged_outcome c.in-Refused.is in
-    record { code = simp judged c.refuse.ensures.code; state = simp judged; answer = simp judged c.refuse.ensures.answer }
+    a.answer.now c.unpack-unpacked.ensures.judged c.unpack-unpacked.ensures.state c.in_range.ensures) ∙ ap judged_outcome c.in-Refused.is in record { code = simp judged c.refuse.ensures.code; state = simp judged; answer = simp judged c.refuse.ensures.answer }
 
 pub returns-in-Accepted : goal.returns-in-Accepted
 unfolding publisher_call_outcome publisher_call_state publisher_call_told next_answered
 returns-in-Accepted c = let a = c.args in
-    let unpack = c.unpack-unpacked.ensures in
     let judged = sym (c.judge_call-judged.ensures ∙ publisher-call
-    a.state.now a.reply a.answer.now unpack.0 unpack.1 c.in_range.ensures) ∙ ap judged_outcome c.in-Accepted.is in
-    let called = c.call_state.ensures in
-    record { code = called.0 ∙ simp (judged, unpack.1); state = called.1.0 ∙ simp (judged, unpack.1); answer = called.1.1 ∙ simp (judged, unpack.1) }
+    a.state.now a.reply a.answer.now c.unpack-unpacked.ensures.judged c.unpack-unpacked.ensures.state c.in_range.ensures) ∙ ap judged_outcome c.in-Accepted.is in record { code = c.call_state.ensures.code ∙ simp (judged, c.unpack-unpacked.ensures.state); state = c.call_state.ensures.state ∙ simp (judged, c.unpack-unpacked.ensures.state); answer = c.call_state.ensures.answer ∙ simp (judged, c.unpack-unpacked.ensures.state) }

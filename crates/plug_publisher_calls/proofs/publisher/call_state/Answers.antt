@@ -11,15 +11,15 @@ returns c = record {
   code = c.tell.ensures.code ∙ simp (
     c.pack.ensures.answer,
     c.pack.ensures.bytes,
-    c.pack.ensures.back.0,
-    c.pack.ensures.back.1,
+    c.pack.ensures.back,
+    c.pack.ensures.kept,
     c.call-stepped.ensures.answer,
     c.call-stepped.ensures.state,
   );
   state = c.pack.ensures.bytes ∙ simp (
     c.pack.ensures.answer,
-    c.pack.ensures.back.0,
-    c.pack.ensures.back.1,
+    c.pack.ensures.back,
+    c.pack.ensures.kept,
     c.call-stepped.ensures.answer,
     c.call-stepped.ensures.state,
   );
@@ -27,8 +27,8 @@ returns c = record {
     c.tell.ensures.answer,
     c.pack.ensures.answer,
     c.pack.ensures.bytes,
-    c.pack.ensures.back.0,
-    c.pack.ensures.back.1,
+    c.pack.ensures.back,
+    c.pack.ensures.kept,
     c.call-stepped.ensures.answer,
     c.call-stepped.ensures.state,
   );

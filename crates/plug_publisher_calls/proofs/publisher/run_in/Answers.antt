@@ -18,8 +18,7 @@ use Rattle.plug_publisher_calls.proofs.publisher.run_in.Goals as goal
 pub returns-then-not-is_image : goal.returns-then-not-is_image
 unfolding publisher_run_outcome publisher_run_events publisher_run_told publisher_fed_outcome publisher_fed_events answered next_answered
 returns-then-not-is_image c = let a = c.args in
-    let short = publisher-short a.kind a.image.now a.new.now a.page a.replies.now a.events.now a.answer.now (sym c.is_image.ensures ∙ c.if-not-is_image.true) in
-    record { code = simp short; events = simp short; answer = simp short }
+    let short = publisher-short a.kind a.image.now a.new.now a.page a.replies.now a.events.now a.answer.now (sym c.is_image.ensures ∙ c.if-not-is_image.true) in record { code = simp short; events = simp short; answer = simp short }
 
 pub returns-in-Refused : goal.returns-in-Refused
 unfolding publisher_run_outcome publisher_run_events publisher_run_told publisher_fed_outcome publisher_fed_events answered next_answered
@@ -33,8 +32,7 @@ returns-in-Refused c = let a = c.args in
     let whole = publisher-judged a.replies.now a.events.now a.answer.now a.kind a.image.now a.new.now a.page sized in
     let fed = c.judge.ensures ∙ ap (λ (s : Publisher). publisher_fed_judged 64 s a.replies.now a.events.now) state in
     let judged = sym (c.judge_answer-judged.ensures ∙ ap₂ (λ (j k : Outcome Done). following j (answer_judged a.answer.now k)) fed start ∙ whole)
-    ∙ ap judged_outcome c.in-Refused.is in
-    record { code = simp judged c.refuse.ensures.code; events = simp judged; answer = simp judged c.refuse.ensures.answer }
+    ∙ ap judged_outcome c.in-Refused.is in record { code = simp judged c.refuse.ensures.code; events = simp judged; answer = simp judged c.refuse.ensures.answer }
 
 pub returns-in-Accepted : goal.returns-in-Accepted
 unfolding publisher_run_outcome publisher_run_events publisher_run_told publisher_fed_outcome publisher_fed_events answered next_answered
@@ -51,10 +49,9 @@ returns-in-Accepted c = let a = c.args in
     ∙ ap judged_outcome c.in-Accepted.is in
     let first = publisher_state 64 a.kind a.image.now a.new.now a.page in
     let all = first-accepted (publisher_fed_judged 64 first a.replies.now a.events.now) (answer_judged
-    a.answer.now (whether (publisher_answer 64 a.kind a.image.now a.new.now a.page))) (whole ∙ judged) in
-    let run = c.run_told.ensures in record {
-      code = run.0 ∙ ap (λ (s : Publisher). code_in (publisher_fed_outcome 64 s a.replies.now a.events.now)) state ∙ simp (judged, all);
-      events = run.1.0 ∙ ap (λ (s : Publisher). publisher_fed_events 64 s a.replies.now a.events.now) state ∙ simp (judged, all);
-      answer = run.1.1 ∙ ap (λ (s : Publisher). next_answered (publisher_fed_outcome 64 s a.replies.now a.events.now)
+    a.answer.now (whether (publisher_answer 64 a.kind a.image.now a.new.now a.page))) (whole ∙ judged) in record {
+      code = c.run_told.ensures.code ∙ ap (λ (s : Publisher). code_in (publisher_fed_outcome 64 s a.replies.now a.events.now)) state ∙ simp (judged, all);
+      events = c.run_told.ensures.events ∙ ap (λ (s : Publisher). publisher_fed_events 64 s a.replies.now a.events.now) state ∙ simp (judged, all);
+      answer = c.run_told.ensures.answer ∙ ap (λ (s : Publisher). next_answered (publisher_fed_outcome 64 s a.replies.now a.events.now)
           a.answer.now) state ∙ simp (judged, all);
     }

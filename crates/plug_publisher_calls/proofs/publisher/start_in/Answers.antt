@@ -26,8 +26,7 @@ returns-in-Refused c = let a = c.args in
     let whole = start-judged a.kind a.image.now a.new.now a.page a.state.now a.answer.now in
     let first = c.in_order.ensures ∙ ap (λ (b : Bool). in_order b true (eqb (length a.state.now) 48)) c.is_image.ensures in
     let judged = sym (c.judge_answer-judged.ensures ∙ ap₂ (λ (j k : Outcome Done). following j (answer_judged a.answer.now k)) first start ∙ whole)
-    ∙ ap judged_outcome c.in-Refused.is in
-    record { code = simp judged c.refuse.ensures.code; state = simp judged; answer = simp judged c.refuse.ensures.answer }
+    ∙ ap judged_outcome c.in-Refused.is in record { code = simp judged c.refuse.ensures.code; state = simp judged; answer = simp judged c.refuse.ensures.answer }
 
 pub returns-in-Accepted : goal.returns-in-Accepted
 unfolding publisher_start_state publisher_start_told

@@ -18,15 +18,13 @@ returns-then-not-is_image c = let short = sym c.is_image.ensures ∙ c.if-not-is
 pub returns-then-not-is_answer : goal.returns-then-not-is_answer
 unfolding answered update_image update_judged update_values
 returns-then-not-is_answer c = let sized = sym c.is_image.ensures ∙ c.if-not-is_image.false in
-    let none = sym c.is_answer.ensures ∙ c.if-not-is_answer.true in
-    record { code = simp (sized, none); answer = simp (sized, none); image = simp (sized, none) }
+    let none = sym c.is_answer.ensures ∙ c.if-not-is_answer.true in record { code = simp (sized, none); answer = simp (sized, none); image = simp (sized, none) }
 
 pub returns-then-not-is_number : goal.returns-then-not-is_number
 unfolding answered update_image update_judged update_values
 returns-then-not-is_number c = let sized = sym c.is_image.ensures ∙ c.if-not-is_image.false in
     let some = sym c.is_answer.ensures ∙ c.if-not-is_answer.false in
-    let none = sym c.is_number.ensures ∙ c.if-not-is_number.true in
-    record { code = simp (sized, some, none); answer = simp (sized, some, none); image = simp (sized, some, none) }
+    let none = sym c.is_number.ensures ∙ c.if-not-is_number.true in record { code = simp (sized, some, none); answer = simp (sized, some, none); image = simp (sized, some, none) }
 
 pub returns : goal.returns
 unfolding answered update_image update_judged update_values
@@ -35,11 +33,10 @@ returns c = let a = c.args in
     let some = sym c.is_answer.ensures ∙ c.if-not-is_answer.false in
     let eight = sym c.is_number.ensures ∙ c.if-not-is_number.false in
     let choice = choice-same a.image.now a.kind.placement a.new.now a.page in
-    let update = c.update.ensures in
-    let told = update.0 ∙ ap (λ (q : ℕ). update_answer 64 a.kind a.image.now a.new.now q) c.page.ensures ∙ ap choice_answer choice in record {
+    let told = c.update.ensures.answer ∙ ap (λ (q : ℕ). update_answer 64 a.kind a.image.now a.new.now q) c.page.ensures ∙ ap choice_answer choice in record {
       code = simp (sized, some, eight) (c.tell_update.ensures.code ∙ ap (λ (t : Outcome (List ℕ)). code_in t) told);
       answer = simp (sized, some, eight) (c.tell_update.ensures.answer ∙ ap (λ (t : Outcome (List ℕ)). answered t a.answer.now) told);
-      image = simp (sized, some, eight) (update.1.0
+      image = simp (sized, some, eight) (c.update.ensures.image
           ∙ ap₂ (λ (b : List ℕ) (q : ℕ). updated_image 64 a.kind b a.image.now a.new.now q a.events) c.eight_of.ensures c.page.ensures
           ∙ ap (λ (k : Choice). run_for 64 a.events (opened (choice_state 64 a.kind a.image.now a.new.now k) (eight_of
           a.number.now)) a.image.now) choice);

@@ -16,8 +16,7 @@ returns-in-Refused c = let a = c.args in
     let whole = number-judged a.replies.now a.events.now a.answer.now in
     let fed = c.judge.ensures ∙ ap (λ (s : NumberRead). number_fed_judged s a.replies.now a.events.now) c.start.ensures in
     let judged = sym (c.judge_answer-judged.ensures ∙ ap (λ (j : Outcome Done). following j (answer_judged a.answer.now (accepted done))) fed ∙ whole)
-    ∙ ap judged_outcome c.in-Refused.is in
-    record { code = simp judged c.refuse.ensures.code; events = simp judged; answer = simp judged c.refuse.ensures.answer }
+    ∙ ap judged_outcome c.in-Refused.is in record { code = simp judged c.refuse.ensures.code; events = simp judged; answer = simp judged c.refuse.ensures.answer }
 
 pub returns-in-Accepted : goal.returns-in-Accepted
 unfolding number_run_outcome number_run_events number_run_told number_fed_outcome number_fed_events next_answered
@@ -27,6 +26,4 @@ returns-in-Accepted c = let a = c.args in
     let judged = sym (c.judge_answer-judged.ensures ∙ ap (λ (j : Outcome Done). following j (answer_judged a.answer.now (accepted done))) fed ∙ whole)
     ∙ ap judged_outcome c.in-Accepted.is in
     let all = first-accepted (number_fed_judged number_begun a.replies.now a.events.now) (answer_judged
-    a.answer.now (accepted done)) (whole ∙ judged) in
-    let run = c.run_told.ensures in
-    record { code = run.0 ∙ simp (judged, all); events = run.1.0 ∙ simp (judged, all); answer = run.1.1 ∙ simp (judged, all) }
+    a.answer.now (accepted done)) (whole ∙ judged) in record { code = c.run_told.ensures.code ∙ simp (judged, all); events = c.run_told.ensures.events ∙ simp (judged, all); answer = c.run_told.ensures.answer ∙ simp (judged, all) }

@@ -8,7 +8,5 @@ use Rattle.plug_reader_calls.proofs.number.run_told.Goals as goal
 
 pub returns : goal.returns
 returns c = let a = c.args in
-    let tell = c.tell.ensures in
-    let run = c.run-last.ensures in
     let begins = c.start.ensures in
-    let told = run.1.0 ∙ ap (λ (s : NumberRead). number_fed_outcome s a.replies.now a.events.now) begins in record { code = tell.0 ∙ ap (λ (t : Outcome Next). code_in t) told; events = run.1.1 ∙ ap (λ (s : NumberRead). number_fed_events s a.replies.now a.events.now) begins; answer = tell.1 ∙ ap (λ (t : Outcome Next). next_answered t a.answer.now) told }
+    let told = c.run-last.ensures.answer ∙ ap (λ (s : NumberRead). number_fed_outcome s a.replies.now a.events.now) begins in record { code = c.tell.ensures.code ∙ ap (λ (t : Outcome Next). code_in t) told; events = c.run-last.ensures.events ∙ ap (λ (s : NumberRead). number_fed_events s a.replies.now a.events.now) begins; answer = c.tell.ensures.answer ∙ ap (λ (t : Outcome Next). next_answered t a.answer.now) told }

@@ -8,15 +8,10 @@ use Rattle.plug_reader_calls.proofs.page.call.Goals as goal
 pub returns-in-Refused : goal.returns-in-Refused
 unfolding page_call_outcome page_call_state page_call_buffer page_call_told next_answered
 returns-in-Refused c = let a = c.args in
-    let unpack = c.unpack-unpacked.ensures in
     let judged = sym (c.judge_call-judged.ensures ∙ page-call a.state.now a.reply
-    a.answer.now unpack.0 unpack.1 c.in_range.ensures) ∙ ap judged_outcome c.in-Refused.is in
-    record { code = simp judged c.refuse.ensures.code; state = simp judged; buffer = simp judged; answer = simp judged c.refuse.ensures.answer }
+    a.answer.now c.unpack-unpacked.ensures.judged c.unpack-unpacked.ensures.state c.in_range.ensures) ∙ ap judged_outcome c.in-Refused.is in record { code = simp judged c.refuse.ensures.code; state = simp judged; buffer = simp judged; answer = simp judged c.refuse.ensures.answer }
 
 pub returns-in-Accepted : goal.returns-in-Accepted
 unfolding page_call_outcome page_call_state page_call_buffer page_call_told next_answered
 returns-in-Accepted c = let a = c.args in
-    let unpack = c.unpack-unpacked.ensures in
-    let judged = sym (c.judge_call-judged.ensures ∙ page-call a.state.now a.reply a.answer.now unpack.0 unpack.1 c.in_range.ensures) ∙ ap judged_outcome c.in-Accepted.is in
-    let called = c.call_state.ensures in
-    record { code = called.0 ∙ simp (judged, unpack.1); state = called.1.0 ∙ simp (judged, unpack.1); buffer = called.1.1.0 ∙ simp (judged, unpack.1); answer = called.1.1.1 ∙ simp (judged, unpack.1) }
+    let judged = sym (c.judge_call-judged.ensures ∙ page-call a.state.now a.reply a.answer.now c.unpack-unpacked.ensures.judged c.unpack-unpacked.ensures.state c.in_range.ensures) ∙ ap judged_outcome c.in-Accepted.is in record { code = c.call_state.ensures.code ∙ simp (judged, c.unpack-unpacked.ensures.state); state = c.call_state.ensures.state ∙ simp (judged, c.unpack-unpacked.ensures.state); buffer = c.call_state.ensures.buffer ∙ simp (judged, c.unpack-unpacked.ensures.state); answer = c.call_state.ensures.answer ∙ simp (judged, c.unpack-unpacked.ensures.state) }

@@ -24,8 +24,7 @@ returns-in-Refused c = let a = c.args in
     let fed = c.judge.ensures ∙ ap (λ (s : PageRead). page_fed_judged 64 (page_held s a.buffer.now) a.replies.now a.events.now) state in
     let start = c.ready.ensures ∙ ap (λ (t : Outcome (List ℕ)). whether t) told in
     let judged = sym (c.judge_answer-judged.ensures ∙ ap₂ (λ (j k : Outcome Done). following j (answer_judged a.answer.now k)) fed start ∙ whole)
-    ∙ ap judged_outcome c.in-Refused.is in
-    record { code = simp judged c.refuse.ensures.code; events = simp judged; buffer = simp judged; answer = simp judged c.refuse.ensures.answer }
+    ∙ ap judged_outcome c.in-Refused.is in record { code = simp judged c.refuse.ensures.code; events = simp judged; buffer = simp judged; answer = simp judged c.refuse.ensures.answer }
 
 pub returns-in-Accepted : goal.returns-in-Accepted
 unfolding page_run_outcome page_run_events page_run_buffer page_run_told page_fed_outcome page_fed page_fed_events next_answered
@@ -40,12 +39,11 @@ returns-in-Accepted c = let a = c.args in
     let first = page_started 64 a.page a.buffer.now in
     let all = first-accepted (page_fed_judged 64 first a.replies.now a.events.now) (answer_judged a.answer.now (whether (start_answer 64
     a.page))) (whole ∙ judged) in
-    let with-buffer = ap (λ (s : PageRead). page_held s a.buffer.now) state in
-    let run = c.run_told.ensures in record {
-      code = run.0 ∙ ap (λ (h : PageHeld). code_in (page_fed_outcome 64 h a.replies.now a.events.now)) with-buffer ∙ simp (judged, all);
-      events = run.1.0 ∙ ap (λ (h : PageHeld). page_fed_events 64 h a.replies.now a.events.now) with-buffer ∙ simp (judged, all);
-      buffer = run.1.1.0 ∙ ap (λ (h : PageHeld). (page_fed 64 h a.replies.now a.events.now).buffer) with-buffer
+    let with-buffer = ap (λ (s : PageRead). page_held s a.buffer.now) state in record {
+      code = c.run_told.ensures.code ∙ ap (λ (h : PageHeld). code_in (page_fed_outcome 64 h a.replies.now a.events.now)) with-buffer ∙ simp (judged, all);
+      events = c.run_told.ensures.events ∙ ap (λ (h : PageHeld). page_fed_events 64 h a.replies.now a.events.now) with-buffer ∙ simp (judged, all);
+      buffer = c.run_told.ensures.buffer ∙ ap (λ (h : PageHeld). (page_fed 64 h a.replies.now a.events.now).buffer) with-buffer
           ∙ ap (λ (j : Outcome Done). (last_state (page_called 64) (tells 64) j first a.replies.now).buffer) all ∙ simp judged;
-      answer = run.1.1.1 ∙ ap (λ (h : PageHeld). next_answered (page_fed_outcome 64 h a.replies.now a.events.now)
+      answer = c.run_told.ensures.answer ∙ ap (λ (h : PageHeld). next_answered (page_fed_outcome 64 h a.replies.now a.events.now)
           a.answer.now) with-buffer ∙ simp (judged, all);
     }

@@ -20,8 +20,7 @@ unfolding page_start_state page_start_judged page_packed buffer_outcome
 returns-then-not-is_page c = let a = c.args in
     let size = eq-eqb _ _ c.if-state-ne48.false in
     let page = sym (c.is_page.ensures ∙ ap (is_page 64) c.page-named.ensures ∙ page-same
-    a.page) ∙ c.if-not-is_page.true in
-    record { code = simp (page, size); state = simp (page, size) }
+    a.page) ∙ c.if-not-is_page.true in record { code = simp (page, size); state = simp (page, size) }
 
 pub returns : goal.returns
 unfolding page_start_state page_start_judged page_packed buffer_outcome

@@ -10,7 +10,7 @@ shape_of-text c = omega (arith, decimal-length c.args.q.0)
 
 pub returns : goal.returns
 unfolding final_text
-returns c = omega (
+returns c = let proved = omega (
   arith,
   decimal-length c.args.q.0,
-)
+) in record { next = proved.0; text = proved.1 }

@@ -35,7 +35,7 @@ loop-p-preserved c = let n = page_count c.args.last in
     let lines = lines_next n img l.p (omega arith) in
     let left = subst (λ (rest : List ℕ). PutsLeft l.next rest l.text c.args.at
     (page_lines n img n 0) c.args.text.now) lines l.invariant.4 in
-    (omega arith, l.invariant.1, c.put_page-next.auto.0 ∙ l.invariant.2, omega arith, left-next _ _ _ _ _ _ _ _ _ left c.put_page-next.ensures)
+    (omega arith, l.invariant.1, c.put_page-next.auto.0 ∙ l.invariant.2, omega arith, left-next _ _ _ _ _ _ _ _ _ left (c.put_page-next.ensures.next, c.put_page-next.ensures.text))
 
 pub shape_of-text : goal.shape_of-text
 shape_of-text c = c.loop-p.invariant.2
@@ -44,5 +44,4 @@ pub returns : goal.returns
 returns c = let n = page_count c.args.last in
     let img = c.args.image.now in
     let l = c.loop-p in
-    let over = lines-over n img l.p (omega arith) in
-    left_over _ _ _ _ _ (subst (λ (rest : List ℕ). PutsLeft l.next rest l.text c.args.at (page_lines n img n 0) c.args.text.now) over l.invariant.4)
+    let over = lines-over n img l.p (omega arith) in let proved = left_over _ _ _ _ _ (subst (λ (rest : List ℕ). PutsLeft l.next rest l.text c.args.at (page_lines n img n 0) c.args.text.now) over l.invariant.4) in record { next = proved.0; text = proved.1 }

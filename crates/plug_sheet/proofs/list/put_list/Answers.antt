@@ -16,5 +16,5 @@ put_counts-requires c = let n = page_count c.args.last in
 
 pub returns : goal.returns
 unfolding list_of
-returns c = put_then _ _ _ _ _ _ _ _ c.put_pages-a.ensures (put_then _ _ _
-    _ _ _ _ _ c.put_lines-b.ensures c.put_counts.ensures)
+returns c = let proved = put_then _ _ _ _ _ _ _ _ (c.put_pages-a.ensures.next, c.put_pages-a.ensures.text) (put_then _ _ _
+    _ _ _ _ _ (c.put_lines-b.ensures.next, c.put_lines-b.ensures.text) (c.put_counts.ensures.next, c.put_counts.ensures.text)) in record { next = proved.0; text = proved.1 }

@@ -8,4 +8,4 @@ use Rattle.plug_sheet.proofs.list.put_pages.Goals as goal
 
 pub returns : goal.returns
 unfolding pages_line
-returns c = omega (arith, decimal-length c.page_count.result)
+returns c = let proved = omega (arith, decimal-length c.page_count.result) in record { next = proved.0; text = proved.1 }

@@ -6,4 +6,4 @@ use Rattle.plug_sheet.proofs.list.put_refused.Goals as goal
 
 pub returns : goal.returns
 unfolding refused_line
-returns c = omega (arith, decimal-length c.args.number)
+returns c = let proved = omega (arith, decimal-length c.args.number) in record { next = proved.0; text = proved.1 }

@@ -11,18 +11,15 @@ use Rattle.plug_sheet.proofs.list.write.Goals as goal
 
 pub returns-then-text-lt-ROOM : goal.returns-then-text-lt-ROOM
 unfolding list_answer list_buffer
-returns-then-text-lt-ROOM c = let room = lt-leb _ _ c.if-text-lt-ROOM.true in
-    record { answer = simp room; text = simp room }
+returns-then-text-lt-ROOM c = let room = lt-leb _ _ c.if-text-lt-ROOM.true in record { answer = simp room; text = simp room }
 
 pub returns-in-Refused : goal.returns-in-Refused
 unfolding list_answer list_buffer
 returns-in-Refused c = let room = le-leb _ _ c.if-text-lt-ROOM.false in
     let faulty = refused-sheet 64 c.args.sheet.now c.judge.result
-    c.r-1.given.0.0 c.in-Refused.is c.judge.ensures in
-    record { answer = simp (room, faulty.0) faulty.1; text = simp (room, faulty.0) }
+    c.r-1.given.0.0 c.in-Refused.is c.judge.ensures in record { answer = simp (room, faulty.0) faulty.1; text = simp (room, faulty.0) }
 
 pub returns-in-Accepted : goal.returns-in-Accepted
 unfolding list_answer list_buffer
 returns-in-Accepted c = let room = le-leb _ _ c.if-text-lt-ROOM.false in
-    let whole = accepted-sheet 64 c.args.sheet.now c.judge.result c.in-Accepted.is c.judge.ensures in
-    let e = c.put_list.ensures in record { answer = simp (room, whole) (ap accepted (e.0 ∙ zero-add _ ∙ ap (λ img. length (list_of 64 img)) c.image.ensures)); text = simp (room, whole) (e.1 ∙ put_first _ _ ∙ ap (λ img. copied (list_of 64 img) c.args.text.now) c.image.ensures) }
+    let whole = accepted-sheet 64 c.args.sheet.now c.judge.result c.in-Accepted.is c.judge.ensures in record { answer = simp (room, whole) (ap accepted (c.put_list.ensures.next ∙ zero-add _ ∙ ap (λ img. length (list_of 64 img)) c.image.ensures)); text = simp (room, whole) (c.put_list.ensures.text ∙ put_first _ _ ∙ ap (λ img. copied (list_of 64 img) c.args.text.now) c.image.ensures) }

@@ -8,5 +8,5 @@ use Rattle.plug_sheet.proofs.stored.fill.Goals as goal
 
 pub returns : goal.returns
 returns c = let a = c.args in
-    sheet-filled (page_count a.last) a.number.now a.image.now a.sheet.now c.copy.new.1.0 c.requires.0 c.requires.1 (c.copy.ensures ∙ ap (λ (l : List
+    sheet-filled (page_count a.last) a.number.now a.image.now a.sheet.now c.copy.new.buffer c.requires.0 c.requires.1 (c.copy.ensures ∙ ap (λ (l : List
     ℕ). copied l a.sheet.now) c.header-front.ensures) c.copy-2.ensures c.copy-3.ensures
