@@ -27,7 +27,7 @@ loop-i-preserved c = let l = c.loop-i in
     let args = c.args in
     let e = c.event_of-e.ensures in (
       omega arith,
-      c.advance-stage.auto.1.1.1.1.0 ∙ l.invariant.1,
+      c.advance-stage.auto.image ∙ l.invariant.1,
       length-set l.replies l.i _ ∙ l.invariant.2,
       length-set l.replies l.i _ ∙ l.invariant.3,
       midway 64 refl _ args.codes.now l.replies l.i l.stage args.number l.image taken (omega (arith, l.invariant.3)) l.invariant.4

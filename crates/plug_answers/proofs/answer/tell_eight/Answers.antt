@@ -8,4 +8,4 @@ use Rattle.plug_answers.proofs.answer.tell_eight.Goals as goal
 
 pub returns : goal.returns
 returns c = c.copy.ensures
-    ∙ unfold answered eight_of in ap (λ (x : List ℕ). copied (0xFF ∷ x) c.args.answer.now) (eight_is c.args.t1 c.well_formed.0.1.0.1)
+    ∙ unfold answered eight_of in ap (λ (x : List ℕ). copied (0xFF ∷ x) c.args.answer.now) (eight_is c.args.b (omega arith))
