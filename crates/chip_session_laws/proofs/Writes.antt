@@ -122,15 +122,15 @@ module _ (n : ℕ) (whole : n % 8 ≡ 0) where
   unfolding before_byte
   before-is mode space a lt = simp (lt-ltb a (limit_of n space) lt)
 
-  write-cycles : (c : Chip) {mode : WriteMode} (space : Space) (a crc : ℕ) (u : WriteCycle mode) (us : List (WriteCycle mode)) → a + suc (length us) ≤ limit_of n space
+  write-cycles : {mode : WriteMode} (c : Chip) (space : Space) (a crc : ℕ) (u : WriteCycle mode) (us : List (WriteCycle mode)) → a + suc (length us) ≤ limit_of n space
       → Ready n (c at Memory (receiving (DataByte mode (target_at space a)) crc))
       → let new = written_from n c.image space a (cycle_bytes (u ∷ us)) in
       Reaches n (c at Memory (receiving (DataByte mode (target_at space a)) crc)) (cycle_events (u ∷ us)) (cycle_lines (byte_of n new space) a crc (u ∷ us))
       ((c at before_byte n mode space (a + suc (length us))) holding new)
   unfolding cycle_events cycle_lines written_from
-  write-cycles c {mode} space a crc u [] le ok =
+  write-cycles {mode} c space a crc u [] le ok =
       simp append-nil (rw (next-byte mode space a, ← (byte-is n (after c (target_at space a) u.byte) space a)) at (one_byte c (target_at space a) crc u ok))
-  write-cycles c {mode} space a crc u (v ∷ us) le ok =
+  write-cycles {mode} c space a crc u (v ∷ us) le ok =
       let img = after c (target_at space a) u.byte in
       let first = rw (next-byte mode space a, before-is mode space (a + 1) (omega arith)) at (one_byte c (target_at space a) crc u ok) in
       let rest = write-cycles (c holding img) space (a + 1) (a + 1) v us (omega arith) (ready n whole ok first) in

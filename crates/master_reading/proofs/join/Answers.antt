@@ -53,7 +53,7 @@ pub shape_of-image-in-Final : goal.shape_of-image-in-Final
 shape_of-image-in-Final c = c.loop-e.invariant.1
 
 pub shape_of-buffer-in-Final : goal.shape_of-buffer-in-Final
-shape_of-buffer-in-Final c = c.call-called.auto.1.1.0 ∙ c.loop-e.invariant.2
+shape_of-buffer-in-Final c = c.call-called.auto.buffer ∙ c.loop-e.invariant.2
 
 pub returns-in-Final : goal.returns-in-Final
 returns-in-Final c = let l = c.loop-e in
@@ -64,7 +64,7 @@ pub shape_of-image-in-Refused : goal.shape_of-image-in-Refused
 shape_of-image-in-Refused c = c.loop-e.invariant.1
 
 pub shape_of-buffer-in-Refused : goal.shape_of-buffer-in-Refused
-shape_of-buffer-in-Refused c = c.call-called.auto.1.1.0 ∙ c.loop-e.invariant.2
+shape_of-buffer-in-Refused c = c.call-called.auto.buffer ∙ c.loop-e.invariant.2
 
 pub returns-in-Refused : goal.returns-in-Refused
 returns-in-Refused c = let l = c.loop-e in

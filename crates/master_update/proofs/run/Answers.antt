@@ -20,7 +20,7 @@ returns-then-not-is_running c = let l = c.loop-left in
 pub loop-left-preserved : goal.loop-left-preserved
 loop-left-preserved c = let l = c.loop-left in (
   ap (λ (k : Joined). run_for 64 (l.left - 1) k c.call_once-j.new.image) c.call_once-j.ensures.joined ∙ ap (run_for 64 (l.left - 1) (called 64 l.j l.image)) c.call_once-j.ensures.image ∙ run-next 64 l.left l.j l.image c.loop-left-test.true ∙ l.invariant.0,
-  c.call_once-j.auto.1.0 ∙ l.invariant.1,
+  c.call_once-j.auto.image ∙ l.invariant.1,
 )
 
 pub shape_of-image : goal.shape_of-image

@@ -1,6 +1,7 @@
 use Prim.Native.Nat.{ℕ}
 use mathlib.Core.Path.{◌∙◌, ap}
 use mathlib.Core.List.{List, ◌∷◌}
+use native.Mathlib.Omega.{arith}
 use Rattle.chip_memory.specs.Page.{copied}
 use Rattle.plug_answers.specs.Answers.{answered, eight_of}
 use Rattle.plug_answers.proofs.Eight.{eight_is}
