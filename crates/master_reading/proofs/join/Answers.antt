@@ -44,8 +44,8 @@ loop-e-preserved c = let l = c.loop-e in
       turned _ _ _ _ _ _ _ l.invariant.0 _ (sym c.call-called.ensures.answer ∙ ap read_outcome c.in-Send.is) _ _ _
           (ap₂ held c.call-called.ensures.state c.call-called.ensures.buffer) (ap₂ chip_of c.event-stepped.ensures.state c.event-stepped.ensures.image)
           (c.line_drawn-reply.ensures ∙ ap line_of c.event-stepped.ensures.answer),
-      ev.auto.1.1.0 ∙ l.invariant.1,
-      call.auto.1.1.0 ∙ l.invariant.2,
+      ev.auto.image ∙ l.invariant.1,
+      call.auto.buffer ∙ l.invariant.2,
       l.invariant.3,
     )
 

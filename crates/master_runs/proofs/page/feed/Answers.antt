@@ -24,7 +24,7 @@ loop-i-preserved c = let l = c.loop-i in
       omega arith,
       length-set l.events l.i _ ∙ l.invariant.1,
       l.invariant.2,
-      step.auto.1.1.0 ∙ l.invariant.3,
+      step.auto.buffer ∙ l.invariant.3,
       midway (page_called 64) (page_told 64) _ args.replies.now _ l.i (page_held l.state l.buffer) _ l.events (omega arith) l.invariant.4
           _ _ _
           (ap₂ page_held c.call-stepped.ensures.state c.call-stepped.ensures.buffer)
