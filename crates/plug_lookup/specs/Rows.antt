@@ -1,5 +1,5 @@
 -- Rows at their edges, in headers of the DS2505. One statement covers them.
-use Rattle.std.specs.Prelude.{ℕ, ◌-◌, refl, List, [], ◌∷◌, ◌++◌, ℤ, pos, neg_ℤ, length, replicate}
+use Rattle.std.specs.Prelude.{ℕ, ◌-◌, refl, List, [], ◌∷◌, ◌++◌, pos, neg_ℤ, length, replicate}
 use Rattle.base_types.specs.Outcome.{Outcome, refused, accepted}
 use Rattle.base_types.specs.Rows.{Row, ◌gives◌, Hold}
 use Rattle.base_types.specs.Scan.{every}

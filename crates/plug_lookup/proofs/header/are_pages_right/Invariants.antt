@@ -1,13 +1,9 @@
 use Prim.Native.Nat.{ℕ, ◌-◌, ◌≤◌}
 use mathlib.Core.Bool.{Bool}
 use mathlib.Core.List.{List}
-use mathlib.Core.Path.{◌≡◌, sym, ap, ◌∙◌}
-use native.Mathlib.Omega.{arith}
-use native.Mathlib.Nat.{sub-zero}
+use mathlib.Core.Path.{◌≡◌}
 use lib.Dec.{ltb}
-use borrow.Author.Tests.{lt-ltb, le-ltb}
 use Rattle.base_types.specs.Scan.{every}
-use Rattle.base_types.proofs.Scan.{every-fails, every-goes-on, every-over}
 use Rattle.plug_lookup.specs.Header.{rows_of, row_page, pages_right}
 use Rattle.plug_lookup.proofs.header.are_pages_right.Given as goal
 

@@ -1,5 +1,4 @@
 use mathlib.Core.Path.{◌∙◌, sym}
-use borrow.Author.Tests.{not-false, not-true}
 use Rattle.plug_lookup.specs.Header.{is_header}
 use Rattle.plug_lookup.proofs.header.is_header.Goals as goal
 

@@ -2,7 +2,6 @@ use mathlib.Core.Path.{sym, ap, ◌∙◌}
 use lib.IntN.{ℤ}
 use mir.Syntax.{w32}
 use mir.ValLaws.{to_z-of_z}
-use borrow.Author.Tests.{not-true, not-false}
 use Rattle.plug_lookup.specs.Header.{rows_of, row_from, row_answer}
 use Rattle.plug_lookup.proofs.header.row_of.Goals as goal
 
