@@ -12,7 +12,7 @@ use Rattle.plug_sheet_lookup.proofs.variation.Goals as goal
 
 pub returns-in-Refused : goal.returns-in-Refused
 unfolding sheet_value
-returns-in-Refused c = let faulty = refused-sheet 64 c.args.sheet.now c.judge.result c.r-1.given.0.0 c.in-Refused.is c.judge.ensures in
+returns-in-Refused c = let faulty = refused-sheet 64 c.args.sheet.now c.judge.result c.in-Refused.r c.in-Refused.is c.judge.ensures in
     simp faulty.0 (ap (λ t. and_then t (λ (size : ℕ). accepted (pos size))) faulty.1)
 
 pub returns-in-Accepted : goal.returns-in-Accepted
