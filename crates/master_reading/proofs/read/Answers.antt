@@ -11,7 +11,7 @@ join-requires c = let h = all_hold _ _ _ (sym (ap judged_outcome c.in-Accepted.i
 pub returns-in-Refused : goal.returns-in-Refused
 returns-in-Refused c = let a = c.args in
     let is = sym (ap judged_outcome c.in-Refused.is) ∙ c.judge.ensures in
-    let e = when-refused 64 a.image.now a.page.0 a.buffer.now c.refusal-1.given.0.0 is in record { end = e.0; events = e.1.0; buffer = e.1.1; image = refl }
+    let e = when-refused 64 a.image.now a.page.0 a.buffer.now c.in-Refused.refusal is in record { end = e.0; events = e.1.0; buffer = e.1.1; image = refl }
 
 pub returns-in-Accepted : goal.returns-in-Accepted
 returns-in-Accepted c = let a = c.args in
