@@ -4,13 +4,16 @@ use Rattle.plug_sheet.specs.List.{final_text}
 use native.Mathlib.Omega.{arith}
 use Rattle.plug_sheet.proofs.list.put_final.Goals as goal
 
-pub shape_of-text : goal.shape_of-text
-unfolding final_text
-shape_of-text c = omega (arith, decimal-length c.args.q.0)
+pub put-c-requires : goal.put-c-requires
+put-c-requires c = omega (arith, decimal-length c.args.q.0)
+
+pub put_decimal-requires : goal.put_decimal-requires
+put_decimal-requires c = omega (arith, decimal-length c.args.q.0)
 
 pub returns : goal.returns
 unfolding final_text
-returns c = let proved = omega (
-  arith,
-  decimal-length c.args.q.0,
-) in record { next = proved.0; text = proved.1 }
+returns c =
+    let proved = put_then _ _ _ _ _ _ _ _ (c.put-a.ensures.next, c.put-a.ensures.buffer)
+    (put_then _ _ _ _ _ _ _ _ (c.put_decimal-b.ensures.next, c.put_decimal-b.ensures.buffer)
+    (put_then _ _ _ _ _ _ _ _ (c.put-c.ensures.next, c.put-c.ensures.buffer) (c.put_decimal.ensures.next, c.put_decimal.ensures.buffer))) in
+    record { next = proved.0; text = proved.1 }

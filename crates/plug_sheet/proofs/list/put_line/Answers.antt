@@ -5,13 +5,14 @@ use native.Mathlib.Omega.{arith}
 use Rattle.plug_sheet.proofs.list.put_line.Goals as goal
 
 pub put_verdict-b-requires : goal.put_verdict-b-requires
-unfolding verdict_line
 put_verdict-b-requires c = omega (arith, decimal-length c.args.p.0)
 
-pub shape_of-text : goal.shape_of-text
+pub put-requires : goal.put-requires
+put-requires c = omega (arith, decimal-length c.args.p.0, verdict-length c.args.v)
+
+pub returns : goal.returns
 unfolding verdict_line
-shape_of-text c = omega (
-  arith,
-  decimal-length c.args.p.0,
-  verdict-length c.args.v,
-)
+returns c =
+    let proved = put_then _ _ _ _ _ _ _ _ (c.put_decimal-a.ensures.next, c.put_decimal-a.ensures.buffer)
+    (put_then _ _ _ _ _ _ _ _ (c.put_verdict-b.ensures.next, c.put_verdict-b.ensures.text) (c.put.ensures.next, c.put.ensures.buffer)) in
+    record { next = proved.0; text = proved.1 }

@@ -1,20 +1,17 @@
 use Rattle.plug_sheet.proofs.Puts.{PutsLeft, left-next, left_over}
 use Rattle.plug_sheet.proofs.Texts.{page-line-length, lines_next, lines-over}
-use Prim.Native.Nat.{ℕ, ◌+◌, ◌*◌, ◌-◌, ◌≤◌}
+use Prim.Native.Nat.{ℕ}
 use mathlib.Core.List.{List}
-use mathlib.Core.Path.{◌≡◌, refl, ap, ◌∙◌, subst}
+use mathlib.Core.Path.{refl, ap, ◌∙◌, subst}
 use native.Mathlib.Nat.{sub-zero}
-use Rattle.plug_sheet.proofs.Texts.{page-line-length}
 use Rattle.plug_sheet.specs.List.{page_lines}
 use Rattle.chip_memory.specs.Layout.{page_count}
-use Prim.Native.Nat.{◌+◌, ◌*◌, ◌-◌, ◌≤◌}
-use mathlib.Core.Path.{◌≡◌, refl, ap, ◌∙◌}
 use native.Mathlib.Omega.{arith}
-use lib.ListN.{length}
 use Rattle.plug_sheet.proofs.list.put_lines.Goals as goal
 
 pub loop-p-init : goal.loop-p-init
-loop-p-init c = let n = page_count c.args.last in
+loop-p-init c =
+    let n = page_count c.args.last in
     let e = ap (λ k. page_lines n c.args.image.now k 0) (sub-zero n) in
     (omega arith, c.page_count-p-end.ensures, refl, omega arith, (simp (sub-zero n), simp (sub-zero n)))
 
@@ -28,20 +25,25 @@ pub loop-p-smaller : goal.loop-p-smaller
 loop-p-smaller c = omega arith
 
 pub loop-p-preserved : goal.loop-p-preserved
-loop-p-preserved c = let n = page_count c.args.last in
+loop-p-preserved c =
+    let n = page_count c.args.last in
     let img = c.args.image.now in
     let l = c.loop-p in
     let long = page-line-length n img l.p in
     let lines = lines_next n img l.p (omega arith) in
-    let left = subst (λ (rest : List ℕ). PutsLeft l.next rest l.text c.args.at
-    (page_lines n img n 0) c.args.text.now) lines l.invariant.4 in
-    (omega arith, l.invariant.1, c.put_page-next.auto.0 ∙ l.invariant.2, omega arith, left-next _ _ _ _ _ _ _ _ _ left (c.put_page-next.ensures.next, c.put_page-next.ensures.text))
-
-pub shape_of-text : goal.shape_of-text
-shape_of-text c = c.loop-p.invariant.2
+    let left = subst (λ (rest : List ℕ). PutsLeft l.next rest l.text c.args.at (page_lines n img n 0) c.args.text.now) lines l.invariant.4 in (
+      omega arith,
+      l.invariant.1,
+      c.put_page-next.auto.text ∙ l.invariant.2,
+      omega arith,
+      left-next _ _ _ _ _ _ _ _ _ left (c.put_page-next.ensures.next, c.put_page-next.ensures.text),
+    )
 
 pub returns : goal.returns
-returns c = let n = page_count c.args.last in
+returns c =
+    let n = page_count c.args.last in
     let img = c.args.image.now in
     let l = c.loop-p in
-    let over = lines-over n img l.p (omega arith) in let proved = left_over _ _ _ _ _ (subst (λ (rest : List ℕ). PutsLeft l.next rest l.text c.args.at (page_lines n img n 0) c.args.text.now) over l.invariant.4) in record { next = proved.0; text = proved.1 }
+    let over = lines-over n img l.p (omega arith) in
+    let proved = left_over _ _ _ _ _ (subst (λ (rest : List ℕ). PutsLeft l.next rest l.text c.args.at (page_lines n img n 0) c.args.text.now) over l.invariant.4) in
+    record { next = proved.0; text = proved.1 }

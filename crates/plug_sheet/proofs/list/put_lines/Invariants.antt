@@ -1,15 +1,8 @@
-use Rattle.plug_sheet.proofs.Puts.{PutsLeft, left-next, left_over}
-use Rattle.plug_sheet.proofs.Texts.{page-line-length, lines_next, lines-over}
-use Prim.Native.Nat.{ℕ, ◌+◌, ◌*◌, ◌-◌, ◌≤◌}
-use mathlib.Core.List.{List}
-use mathlib.Core.Path.{◌≡◌, refl, ap, ◌∙◌, subst}
-use native.Mathlib.Nat.{sub-zero}
-use Rattle.plug_sheet.proofs.Texts.{page-line-length}
+use Rattle.plug_sheet.proofs.Puts.{PutsLeft}
+use Prim.Native.Nat.{◌+◌, ◌*◌, ◌-◌, ◌≤◌}
+use mathlib.Core.Path.{◌≡◌}
 use Rattle.plug_sheet.specs.List.{page_lines}
 use Rattle.chip_memory.specs.Layout.{page_count}
-use Prim.Native.Nat.{◌+◌, ◌*◌, ◌-◌, ◌≤◌}
-use mathlib.Core.Path.{◌≡◌, refl, ap, ◌∙◌}
-use native.Mathlib.Omega.{arith}
 use lib.ListN.{length}
 use Rattle.plug_sheet.proofs.list.put_lines.Given as goal
 

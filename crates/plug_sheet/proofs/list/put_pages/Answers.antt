@@ -6,6 +6,13 @@ use mathlib.Core.Path.{ap}
 use native.Mathlib.Omega.{arith}
 use Rattle.plug_sheet.proofs.list.put_pages.Goals as goal
 
+pub put-requires : goal.put-requires
+put-requires c = omega (arith, decimal-length c.page_count.result)
+
 pub returns : goal.returns
 unfolding pages_line
-returns c = let proved = omega (arith, decimal-length c.page_count.result) in record { next = proved.0; text = proved.1 }
+returns c =
+    let number = put_same _ _ _ _ _ _ (ap decimal c.page_count.ensures) (c.put_decimal-b.ensures.next, c.put_decimal-b.ensures.buffer) in
+    let proved = put_then _ _ _ _ _ _ _ _ (c.put-a.ensures.next, c.put-a.ensures.buffer)
+    (put_then _ _ _ _ _ _ _ _ number (c.put.ensures.next, c.put.ensures.buffer)) in
+    record { next = proved.0; text = proved.1 }

@@ -4,6 +4,12 @@ use Rattle.plug_sheet.specs.List.{refused_line}
 use native.Mathlib.Omega.{arith}
 use Rattle.plug_sheet.proofs.list.put_refused.Goals as goal
 
+pub put-requires : goal.put-requires
+put-requires c = omega (arith, decimal-length c.args.number)
+
 pub returns : goal.returns
 unfolding refused_line
-returns c = let proved = omega (arith, decimal-length c.args.number) in record { next = proved.0; text = proved.1 }
+returns c =
+    let proved = put_then _ _ _ _ _ _ _ _ (c.put-a.ensures.next, c.put-a.ensures.buffer)
+    (put_then _ _ _ _ _ _ _ _ (c.put_decimal-b.ensures.next, c.put_decimal-b.ensures.buffer) (c.put.ensures.next, c.put.ensures.buffer)) in
+    record { next = proved.0; text = proved.1 }

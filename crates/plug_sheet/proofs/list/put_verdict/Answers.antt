@@ -1,10 +1,14 @@
 use Rattle.plug_sheet.specs.List.{verdict_text}
 use Rattle.plug_sheet.proofs.list.put_verdict.Goals as goal
 
-pub shape_of-text-in-Loop : goal.shape_of-text-in-Loop
+pub returns-in-Final : goal.returns-in-Final
 unfolding verdict_text
-shape_of-text-in-Loop c = simp c.v.given.1 c.put-final.ensures
+returns-in-Final c = simp c.in-Final.is (record { next = c.put_final.ensures.next; text = c.put_final.ensures.text })
 
-pub shape_of-text-in-Outside : goal.shape_of-text-in-Outside
+pub returns-in-Loop : goal.returns-in-Loop
 unfolding verdict_text
-shape_of-text-in-Outside c = simp c.enum_told.given.1 c.put.ensures
+returns-in-Loop c = simp c.in-Loop.is (record { next = c.put.ensures.next; text = c.put.ensures.buffer })
+
+pub returns-in-Outside : goal.returns-in-Outside
+unfolding verdict_text
+returns-in-Outside c = simp c.in-Outside.is (record { next = c.put_outside.ensures.next; text = c.put_outside.ensures.text })

@@ -14,5 +14,10 @@ returns-then-text-lt-ROOM c = let room = lt-leb _ _ c.if-text-lt-ROOM.true in re
 
 pub returns : goal.returns
 unfolding refusal_answer refusal_buffer
-returns c = let room = le-leb _ _ c.if-text-lt-ROOM.false in
-    let number = c.number.ensures in record { answer = simp room (ap accepted (c.put_refused.ensures.next ∙ zero-add _ ∙ ap (λ k. length (refused_line k)) number)); text = simp room (c.put_refused.ensures.text ∙ put_first _ _ ∙ ap (λ k. copied (refused_line k) c.args.text.now) number) }
+returns c =
+    let room = le-leb _ _ c.if-text-lt-ROOM.false in
+    let number = c.number.ensures in
+    record {
+      answer = simp room (ap accepted (c.put_refused.ensures.next ∙ zero-add _ ∙ ap (λ k. length (refused_line k)) number));
+      text = simp room (c.put_refused.ensures.text ∙ put_first _ _ ∙ ap (λ k. copied (refused_line k) c.args.text.now) number);
+    }

@@ -3,11 +3,9 @@ use Rattle.base_types.specs.Scan.{every}
 use Rattle.base_types.proofs.Scan.{every-fails, every-goes-on, every-over}
 use Rattle.plug_sheet.specs.Stored.{gaps_blank}
 use Rattle.chip_memory.specs.Layout.{page_count, status_size}
-use Prim.Native.Nat.{◌-◌, ◌≤◌}
-use mathlib.Core.Path.{◌≡◌, sym, ap, ◌∙◌}
+use mathlib.Core.Path.{sym, ap, ◌∙◌}
 use native.Mathlib.Nat.{sub-zero}
 use native.Mathlib.Omega.{arith}
-use borrow.Author.Tests.{not-true, not-false}
 use Rattle.plug_sheet.proofs.stored.gaps_blank.Goals as goal
 
 pub loop-a-init : goal.loop-a-init

@@ -1,13 +1,9 @@
 use Rattle.plug_sheet.proofs.Sheets.{gap_ok}
 use Rattle.base_types.specs.Scan.{every}
-use Rattle.base_types.proofs.Scan.{every-fails, every-goes-on, every-over}
 use Rattle.plug_sheet.specs.Stored.{gaps_blank}
 use Rattle.chip_memory.specs.Layout.{page_count, status_size}
 use Prim.Native.Nat.{◌-◌, ◌≤◌}
-use mathlib.Core.Path.{◌≡◌, sym, ap, ◌∙◌}
-use native.Mathlib.Nat.{sub-zero}
-use native.Mathlib.Omega.{arith}
-use borrow.Author.Tests.{not-true, not-false}
+use mathlib.Core.Path.{◌≡◌}
 use Rattle.plug_sheet.proofs.stored.gaps_blank.Given as goal
 
 abbrev pub invariant-loop-a : goal.invariant-loop-a

@@ -4,7 +4,7 @@ use native.Mathlib.Omega.{arith}
 use lib.ListN.{length}
 use mathlib.Core.List.{List}
 use Prim.Native.Nat.{ℕ}
-use borrow.Author.Tests.{eq-eqb, ne_eqb, not-true, not-false}
+use borrow.Author.Tests.{eq-eqb, ne_eqb}
 use Rattle.chip_memory.specs.Layout.{page_count}
 use Rattle.plug_sheet.proofs.Sheets.{rest-whole}
 use Rattle.plug_sheet.proofs.stored.is_sheet.Goals as goal

@@ -1,6 +1,5 @@
 use Rattle.plug_sheet.specs.Stored.{sheet_answer}
 use mathlib.Core.Path.{sym, ◌∙◌}
-use borrow.Author.Tests.{not-true, not-false}
 use Rattle.plug_sheet.proofs.stored.judge.Goals as goal
 
 pub returns-then-not-is_sheet : goal.returns-then-not-is_sheet

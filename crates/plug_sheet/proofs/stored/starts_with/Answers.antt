@@ -1,9 +1,6 @@
 use Rattle.plug_sheet.proofs.Sheets.{starts-next, starts-not, starts-short, starts-end}
-use Rattle.plug_sheet.specs.Stored.{starts_with}
-use Prim.Native.Nat.{◌-◌, ◌≤◌}
-use mathlib.Core.Path.{◌≡◌, refl, ◌∙◌}
+use mathlib.Core.Path.{refl, ◌∙◌}
 use native.Mathlib.Omega.{arith}
-use lib.ListN.{length, drop}
 use borrow.Author.Rules.{rules}
 use Rattle.plug_sheet.proofs.stored.starts_with.Goals as goal
 

@@ -2,7 +2,7 @@ use Rattle.plug_sheet.specs.Stored.{write_answer, write_buffer}
 use Rattle.chip_memory.proofs.Sizes.{image-length}
 use mathlib.Core.Path.{sym, ◌∙◌}
 use native.Mathlib.Omega.{arith}
-use borrow.Author.Tests.{eq-eqb, ne_eqb, not-true, not-false}
+use borrow.Author.Tests.{eq-eqb, ne_eqb}
 use Rattle.plug_sheet.proofs.stored.write.Goals as goal
 
 pub returns-then-not-is_image : goal.returns-then-not-is_image
