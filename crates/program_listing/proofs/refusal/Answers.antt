@@ -6,11 +6,17 @@ use mathlib.Core.Path.{subst}
 use Rattle.program_listing.proofs.refusal.Goals as goal
 
 pub returns-in-Refused : goal.returns-in-Refused
-returns-in-Refused c = let w = c.write_refusal in
-    let a = c.args in let proved = subst (λ (l : Listed). ReportWritten (size_of l) (refused_line (number_of a.refusal)) a.text.now c.write_refusal.new.text) c.in-Refused.is
-    (refusal-written 64 a.refusal a.text.now c.write_refusal.new.text c.requires w.result c.write_refusal.ensures.answer c.write_refusal.ensures.text) in record { size = proved.0; text = proved.1 }
+returns-in-Refused c =
+    let w = c.write_refusal in
+    let a = c.args in
+    let proved = subst (λ (l : Listed). ReportWritten (size_of l) (refused_line (number_of a.refusal)) a.text.now w.new.text) c.in-Refused.is
+    (refusal-written 64 a.refusal a.text.now w.new.text c.requires w.result w.ensures.answer w.ensures.text) in
+    record { size = proved.0; text = proved.1 }
 
 pub returns-in-Text : goal.returns-in-Text
-returns-in-Text c = let w = c.write_refusal in
-    let a = c.args in let proved = subst (λ (l : Listed). ReportWritten (size_of l) (refused_line (number_of a.refusal)) a.text.now c.write_refusal.new.text) c.in-Text.is
-    (refusal-written 64 a.refusal a.text.now c.write_refusal.new.text c.requires w.result c.write_refusal.ensures.answer c.write_refusal.ensures.text) in record { size = proved.0; text = proved.1 }
+returns-in-Text c =
+    let w = c.write_refusal in
+    let a = c.args in
+    let proved = subst (λ (l : Listed). ReportWritten (size_of l) (refused_line (number_of a.refusal)) a.text.now w.new.text) c.in-Text.is
+    (refusal-written 64 a.refusal a.text.now w.new.text c.requires w.result w.ensures.answer w.ensures.text) in
+    record { size = proved.0; text = proved.1 }

@@ -10,17 +10,22 @@ use Rattle.program_listing.proofs.report.Goals as goal
 
 pub returns-in-Refused : goal.returns-in-Refused
 unfolding report_buffer
-returns-in-Refused c = let w = c.write in
+returns-in-Refused c =
+    let w = c.write in
     let a = c.args in
     let room : room_for 64 ≤ length a.text.now = search rules in
-    let r = c.r-1.given.0.0 in
     let same =
-    report-refused 64 a.sheet.now a.text.now c.write.new.text room c.write.ensures.text r
-    (sym (ap list_outcome c.in-Refused.is) ∙ c.write.ensures.answer) in record { size = c.refusal.ensures.size ∙ ap length same.0; text = c.refusal.ensures.text ∙ ap₂ copied same.0 same.1 }
+    report-refused 64 a.sheet.now a.text.now w.new.text room w.ensures.text c.in-Refused.r
+    (sym (ap list_outcome c.in-Refused.is) ∙ w.ensures.answer) in
+    record { size = c.refusal.ensures.size ∙ ap length same.0; text = c.refusal.ensures.text ∙ ap₂ copied same.0 same.1 }
 
 pub returns-in-Text : goal.returns-in-Text
 unfolding report_buffer
-returns-in-Text c = let w = c.write in
+returns-in-Text c =
+    let w = c.write in
     let a = c.args in
-    let room : room_for 64 ≤ length a.text.now = search rules in let proved = report-written 64 a.sheet.now a.text.now c.write.new.text room c.write.ensures.text c.size-1.given.0.0
-    (sym (ap list_outcome c.in-Text.is) ∙ c.write.ensures.answer) in record { size = proved.0; text = proved.1 }
+    let room : room_for 64 ≤ length a.text.now = search rules in
+    let proved =
+    report-written 64 a.sheet.now a.text.now w.new.text room w.ensures.text c.in-Text.size
+    (sym (ap list_outcome c.in-Text.is) ∙ w.ensures.answer) in
+    record { size = proved.0; text = proved.1 }
