@@ -21,5 +21,5 @@ returns-in-Refused c = record {
 pub returns-in-Outcome : goal.returns-in-Outcome
 unfolding answered
 returns-in-Outcome c = let e = c.in-Outcome.is in
-    let v = c.told-in-Outcome-1.given.0.0 in
-    let b = c.low_bits-bits.ensures ∙ ap low_bits (to_z-of_z w32 v (record { sfits = c.known_told-in-Outcome-1.given.0.1 })) in record { code = simp e; answer = simp e (c.tell_two.ensures ∙ ap (λ (x : ℕ). answered (accepted (x % 256 ∷ x / 256 % 256 ∷ [])) c.args.answer.now) b) }
+    let v = c.in-Outcome.v in
+    let b = c.low_bits-bits.ensures ∙ ap low_bits (to_z-of_z w32 v ?) in record { code = simp e; answer = simp e (c.tell_two.ensures ∙ ap (λ (x : ℕ). answered (accepted (x % 256 ∷ x / 256 % 256 ∷ [])) c.args.answer.now) b) }
