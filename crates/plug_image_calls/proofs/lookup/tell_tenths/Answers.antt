@@ -1,3 +1,4 @@
+use native.Mathlib.Omega.{arith}
 use Prim.Native.Nat.{ℕ, ◌/◌, ◌%◌}
 use mathlib.Core.List.{[], ◌∷◌}
 use mathlib.Core.Path.{ap, ◌∙◌}
@@ -22,4 +23,4 @@ pub returns-in-Outcome : goal.returns-in-Outcome
 unfolding answered
 returns-in-Outcome c = let e = c.in-Outcome.is in
     let v = c.in-Outcome.v in
-    let b = c.low_bits-bits.ensures ∙ ap low_bits (to_z-of_z w32 v ?) in record { code = simp e; answer = simp e (c.tell_two.ensures ∙ ap (λ (x : ℕ). answered (accepted (x % 256 ∷ x / 256 % 256 ∷ [])) c.args.answer.now) b) }
+    let b = c.low_bits-bits.ensures ∙ ap low_bits (to_z-of_z w32 v (record { sfits = omega arith })) in record { code = simp e; answer = simp e (c.tell_two.ensures ∙ ap (λ (x : ℕ). answered (accepted (x % 256 ∷ x / 256 % 256 ∷ [])) c.args.answer.now) b) }
