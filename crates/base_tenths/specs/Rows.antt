@@ -1,5 +1,5 @@
 -- Changes at the ends of the range of values, and numbers that are none. One statement covers them.
-use Rattle.std.specs.Prelude.{ℕ, refl, List, [], ◌∷◌, ℤ, pos, neg_ℤ}
+use Rattle.std.specs.Prelude.{refl, List, [], ◌∷◌, ℤ, pos, neg_ℤ}
 use Rattle.base_types.specs.Outcome.{Outcome, refused, accepted}
 use Rattle.base_types.specs.Rows.{Row, ◌gives◌, Hold}
 use Rattle.base_tenths.specs.Tenths.{signed_of, is_value, fold_of, change_answer}

@@ -7,7 +7,7 @@ use native.Mathlib.Omega.{arith}
 use lib.ListN.{length, replicate}
 use Rattle.base_types.specs.Outcome.{Outcome, refused, accepted}
 use Rattle.bus_events.specs.declared.Event.{Event}
-use Rattle.bus_scripts.specs.Joint.{Out, event, quiet}
+use Rattle.bus_scripts.specs.Joint.{quiet}
 use Rattle.bus_scripts.specs.Next.{Next, send, tells, out_of, events_of}
 use Rattle.bus_scripts.specs.Script.{Script, stops, gives, sends, outcome_at, follow, play_from, play, left_in, left_by}
 use Rattle.bus_scripts.proofs.Runs.{Runs, stopped, given, sent}

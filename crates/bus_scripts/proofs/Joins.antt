@@ -1,7 +1,7 @@
 -- What a bus draws along events.
 use mathlib.Core.Bool.{Bool}
-use mathlib.Core.List.{List, [], ◌∷◌, ◌++◌}
-use mathlib.Core.Path.{◌≡◌, refl, ap, ◌∙◌}
+use mathlib.Core.List.{List}
+use mathlib.Core.Path.{◌≡◌}
 use Rattle.bus_scripts.specs.Joint.{run, lines}
 
 module _ {E B : Type 0} (react : B → E → B) (line : B → E → Bool) where

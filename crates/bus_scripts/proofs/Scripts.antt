@@ -8,7 +8,7 @@ use Rattle.base_types.specs.Outcome.{Outcome, refused, accepted}
 use Rattle.bus_events.specs.declared.Event.{Event}
 use Rattle.bus_scripts.specs.Joint.{answers, reached, drew, GoodAfter, Good, drawn_replies}
 use Rattle.bus_scripts.specs.Next.{Next, send, tells, out_of}
-use Rattle.bus_scripts.specs.Script.{Script, stops, gives, sends, outcome_at, handed_at, follow, play_from, play, left_in, left_by, telling, leaving, play_on, played_telling, ScriptLaws}
+use Rattle.bus_scripts.specs.Script.{Script, stops, gives, sends, outcome_at, follow, play_from, play, left_in, left_by, telling, leaving, play_on, played_telling, ScriptLaws}
 
 module _ {B : Type 0} (react : B → Event → B) (line : B → Event → Bool) where
   abbrev GoodFor : (Bool → Script) → B → Bool → List Bool → Type 0

@@ -1,11 +1,11 @@
 -- What a master does, as a tree: it stops with a refusal, it gives its result, or it sends an event and goes on by the reply.
 -- The combinators are written for `do`: each is handed what follows.
-use Rattle.std.specs.Prelude.{ℕ, zero, suc, ◌+◌, ◌*◌, ◌≡◌, Bool, true, false, not, cond, List, [], ◌∷◌, eqb, ltb, length}
+use Rattle.std.specs.Prelude.{ℕ, zero, suc, ◌+◌, ◌*◌, ◌≡◌, Bool, true, false, not, List, [], ◌∷◌, eqb, length}
 use Rattle.base_types.specs.Bits.{one, bits_of_bytes}
 use Rattle.base_types.specs.Outcome.{Outcome, refused, accepted}
 use Rattle.bus_events.specs.declared.Event.{Event}
 use Rattle.bus_events.specs.Events as bus
-use Rattle.bus_scripts.specs.Joint.{calls, answers, Good, drawn_replies}
+use Rattle.bus_scripts.specs.Joint.{answers, Good, drawn_replies}
 use Rattle.bus_scripts.specs.Next.{Next, send, tells, out_of}
 
 pub data Script : Type 0 where

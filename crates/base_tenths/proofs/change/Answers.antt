@@ -1,10 +1,9 @@
 use mathlib.Core.Path.{◌≡◌, sym, ap, ap₂, ◌∙◌}
-use mathlib.Core.Bool.{Bool, true}
+use mathlib.Core.Bool.{Bool}
 use lib.IntN.{ℤ, ◌-ℤ◌}
 use mir.Syntax.{w32}
 use mir.Val.{SFits, to_z, of_z}
 use mir.ValLaws.{to_z-of_z}
-use borrow.Author.Tests.{not-true, not-false}
 use Rattle.base_types.specs.Outcome.{Outcome, accepted}
 use Rattle.base_tenths.specs.Tenths.{is_value, Folds, fold_of, change_answer}
 use Rattle.base_tenths.proofs.Integers.{difference-fits}

@@ -1,15 +1,11 @@
 -- `crc::crc16::run` meets its contract: the bytes that are left go into the register as all of them do at the start.
-use mathlib.Core.Path.{◌≡◌, ap, ◌∙◌}
-use mathlib.Core.List.{List}
+use mathlib.Core.Path.{◌≡◌}
 use Prim.Native.Nat.{ℕ, ◌≤◌, ◌<◌, ◌-◌}
-use native.Mathlib.Omega.{arith}
 use lib.Bits.{bit_xor}
 use lib.ListN.{length, get_or, drop}
 use Rattle.base_crc.specs.Polynomial.{crc16_polynomial}
-use Rattle.base_crc.specs.Crc.{crc16_byte, crc16_from}
+use Rattle.base_crc.specs.Crc.{crc16_from}
 use Rattle.base_crc.specs.Table.{table_of}
-use Rattle.base_crc.proofs.Steps.{next-byte, done-bytes}
-use Rattle.base_crc.proofs.Table.{kept-first, kept_next}
 use Rattle.base_crc.proofs.crc16.run.Given as goal
 
 -- the register that is kept as a rest and a place

@@ -1,9 +1,6 @@
 -- `crc::crc8::run` meets its contract: the bytes that are left go into the register as all of them do at the start.
-use mathlib.Core.Path.{◌≡◌, refl, ◌∙◌}
-use Prim.Native.Nat.{◌≤◌, ◌-◌}
-use lib.ListN.{length, drop}
+use mathlib.Core.Path.{refl, ◌∙◌}
 use Rattle.base_crc.specs.Polynomial.{crc8_polynomial}
-use Rattle.base_crc.specs.Crc.{crc8_from}
 use Rattle.base_crc.proofs.Steps.{next-byte, done-bytes}
 use borrow.Author.Rules.{rules}
 use Rattle.base_crc.proofs.crc8.run.Goals as goal
