@@ -6,71 +6,70 @@ pub mod numeral;
 use base_tenths::Tenths;
 use base_types::refusal;
 use base_types::refusal::Refusal;
-use libc::STDOUT_FILENO;
+use std::io;
 
-fn print(text: &[u8]) {
-    io::write_all(STDOUT_FILENO, text);
+fn print(rt: &impl Print, text: &[u8]) -> io::Result<()> {
+    rt.write_all(text)
 }
 
-fn print_number(x: u64) {
-    io::print_decimal(STDOUT_FILENO, x);
+fn print_number(rt: &impl Print, x: u64) -> io::Result<()> {
+    print!(rt; "{x}")
 }
 
 // A value or a change: sixteen bits hold each, the sign among them.
-fn print_tenths(v: i32) {
+fn print_tenths(rt: &impl Print, v: i32) -> io::Result<()> {
     let bits = base_tenths::low_bits(v) as u64;
     if bits < 0x8000 {
-        print_number(bits);
-        return;
+        return print_number(rt, bits);
     }
-    print(b"-");
-    print_number(0x10000 - bits);
+    print(rt, b"-")?;
+    print_number(rt, 0x10000 - bits)
 }
 
 // What a refusal means. Those of the chip's other entries cannot come here, and have no words.
-fn print_words(refusal: Refusal) {
+fn print_words(rt: &impl Print, refusal: Refusal) -> io::Result<()> {
     match refusal {
-        Refusal::ImageLength => print(b" image length"),
-        Refusal::Loop => print(b" loop"),
-        Refusal::Outside(x) => print_outside(x),
-        Refusal::Sheet => print(b" sheet faulty"),
-        Refusal::Header => print(b" header faulty"),
-        Refusal::Latitude => print(b" latitude in no row"),
-        Refusal::Column => print(b" column too large"),
-        Refusal::NoValue => print(b" no value"),
-        _ => {}
+        Refusal::ImageLength => print(rt, b" image length"),
+        Refusal::Loop => print(rt, b" loop"),
+        Refusal::Outside(x) => print_outside(rt, x),
+        Refusal::Sheet => print(rt, b" sheet faulty"),
+        Refusal::Header => print(rt, b" header faulty"),
+        Refusal::Latitude => print(rt, b" latitude in no row"),
+        Refusal::Column => print(rt, b" column too large"),
+        Refusal::NoValue => print(rt, b" no value"),
+        _ => Ok(()),
     }
 }
 
-fn print_outside(x: u8) {
-    print(b" outside ");
-    print_number(x as u64);
+fn print_outside(rt: &impl Print, x: u8) -> io::Result<()> {
+    print(rt, b" outside ")?;
+    print_number(rt, x as u64)
 }
 
-fn print_refusal(refusal: Refusal) {
-    print(b"refused ");
-    print_number(refusal::number(refusal) as u64);
-    print_words(refusal);
+fn print_refusal(rt: &impl Print, refusal: Refusal) -> io::Result<()> {
+    print(rt, b"refused ")?;
+    print_number(rt, refusal::number(refusal) as u64)?;
+    print_words(rt, refusal)
 }
 
 // A line: a refusal, or tenths after the word for what they are.
-fn print_line(word: &[u8], told: Tenths) {
+fn print_line(rt: &impl Print, word: &[u8], told: Tenths) -> io::Result<()> {
     match told {
-        Tenths::Refused(r) => print_refusal(r),
+        Tenths::Refused(r) => print_refusal(rt, r)?,
         Tenths::Outcome(v) => {
-            print(word);
-            print_tenths(v);
+            print(rt, word)?;
+            print_tenths(rt, v)?;
         }
     }
-    print(b"\n");
+    print(rt, b"\n")
 }
 
 // What a lookup told, as a line on standard output.
-pub fn print_variation(told: Tenths) {
-    print_line(b"variation ", told);
+pub fn print_variation(rt: &impl Print, told: Tenths) -> io::Result<()> {
+    print_line(rt, b"variation ", told)
 }
 
 // What a change told, as a line on standard output.
-pub fn print_change(told: Tenths) {
-    print_line(b"change ", told);
+pub fn print_change(rt: &impl Print, told: Tenths) -> io::Result<()> {
+    print_line(rt, b"change ", told)
 }

@@ -1,11 +1,7 @@
-use Prim.Native.Nat.{◌-◌, ◌^◌, ◌<◌, ◌≤◌}
-use mathlib.Core.Bool.{true}
-use mathlib.Core.Path.{◌≡◌, refl, sym, ◌∙◌}
-use native.Mathlib.Omega.{arith}
-use lib.ListN.{length, get_or, drop}
-use borrow.Author.Tests.{not-true, not-false}
-use Rattle.program_text.specs.Numeral.{is_digit, digits_from}
-use Rattle.program_text.proofs.Numerals.{digits-next, digits-stop, digits-end, digit-bounds, next-below, eight-below}
+use Prim.Native.Nat.{◌^◌, ◌<◌, ◌≤◌}
+use mathlib.Core.Path.{◌≡◌}
+use lib.ListN.{length, drop}
+use Rattle.program_text.specs.Numeral.{digits_from}
 use Rattle.program_text.proofs.numeral.digits.Given as goal
 
 abbrev pub invariant-loop-i : goal.invariant-loop-i

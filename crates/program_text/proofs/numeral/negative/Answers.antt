@@ -8,8 +8,8 @@ use Rattle.program_text.specs.Numeral.{minus}
 use Rattle.program_text.proofs.Numerals.{natural-below, negated-is, negated_fits}
 use Rattle.program_text.proofs.numeral.negative.Goals as goal
 
-below : (c : tie.After-known-told) → c.before.x.given.0.0 < 1000000000
-below c = natural-below _ _ (sym c.before.before.before.natural.ensures ∙ c.before.x.given.1)
+below : (c : goal.In-Number) → c.in-Number.x < 1000000000
+below c = natural-below _ _ (sym c.natural.ensures ∙ c.in-Number.is)
 
 pub overflow_cast-result : goal.overflow_cast-result
 overflow_cast-result c = record { sfits = omega (arith, below c) }
@@ -17,9 +17,6 @@ overflow_cast-result c = record { sfits = omega (arith, below c) }
 pub overflow_sub-result : goal.overflow_sub-result
 overflow_sub-result c = negated_fits _ (below c)
 
-pub returns-in-Faulty : goal.returns-in-Faulty
-returns-in-Faulty c = ap minus (sym c.in-Faulty.is ∙ c.natural.ensures)
-
 pub returns-in-Number : goal.returns-in-Number
-returns-in-Number c = ap Number (to_z-of_z w32 _ (sub-t6 c) ∙ negated-is _ (below c))
+returns-in-Number c = ap Number (to_z-of_z w32 _ (negated_fits _ (below c)) ∙ negated-is _ (below c))
     ∙ ap minus (sym c.in-Number.is ∙ c.natural.ensures)

@@ -8,14 +8,11 @@ use Rattle.program_text.specs.Numeral.{plus}
 use Rattle.program_text.proofs.Numerals.{natural-below}
 use Rattle.program_text.proofs.numeral.positive.Goals as goal
 
-below : (c : tie.After-known-told) → c.before.x.given.0.0 < 1000000000
-below c = natural-below _ _ (sym c.before.before.before.natural.ensures ∙ c.before.x.given.1)
+below : (c : goal.In-Number) → c.in-Number.x < 1000000000
+below c = natural-below _ _ (sym c.natural.ensures ∙ c.in-Number.is)
 
 pub overflow_cast-result : goal.overflow_cast-result
 overflow_cast-result c = record { sfits = omega (arith, below c) }
-
-pub returns-in-Faulty : goal.returns-in-Faulty
-returns-in-Faulty c = ap plus (sym c.in-Faulty.is ∙ c.natural.ensures)
 
 pub returns-in-Number : goal.returns-in-Number
 returns-in-Number c = ap Number (to_z_pos w32 _ (omega (arith, below c)))
