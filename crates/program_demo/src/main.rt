@@ -5,11 +5,12 @@
 use base_types::address::Page;
 use base_types::refusal;
 use base_types::refusal::{Judged, Refusal};
-use libc::{STDIN_FILENO, STDOUT_FILENO};
 use master_plan::kind;
 use master_reading::{End, Reading};
 use master_update::Updated;
 use plug_sheet::stored;
+use std::io;
+use std::io::Read;
 
 // The page that is asked for, and the page that is updated.
 const ASKED: u8 = 5;
@@ -18,42 +19,42 @@ const UPDATED: u8 = 1;
 
 // ---- text
 
-fn say(words: &[u8]) {
-    io::write_all(STDOUT_FILENO, words);
+fn say(rt: &impl Print, words: &[u8]) -> io::Result<()> {
+    rt.write_all(words)
 }
 
-fn say_number(n: u64) {
-    io::print_decimal(STDOUT_FILENO, n);
+fn say_number(rt: &impl Print, n: u64) -> io::Result<()> {
+    print!(rt; "{n}")
 }
 
-fn say_page(words: &[u8], page: u8) {
-    say(words);
-    say_number(page as u64);
+fn say_page(rt: &impl Print, words: &[u8], page: u8) -> io::Result<()> {
+    say(rt, words)?;
+    say_number(rt, page as u64)
 }
 
 // What a refusal gives back, in the list's words.
-fn say_chain(refusal: Refusal) {
+fn say_chain(rt: &impl Print, refusal: Refusal) -> io::Result<()> {
     match refusal {
-        Refusal::Loop => say(b" loop"),
-        Refusal::Outside(x) => say_page(b" outside ", x),
-        _ => {}
+        Refusal::Loop => say(rt, b" loop"),
+        Refusal::Outside(x) => say_page(rt, b" outside ", x),
+        _ => Ok(()),
     }
 }
 
-fn say_refusal(refusal: Refusal) {
-    say_page(b"refused ", refusal::number(refusal));
-    say_chain(refusal);
+fn say_refusal(rt: &impl Print, refusal: Refusal) -> io::Result<()> {
+    say_page(rt, b"refused ", refusal::number(refusal))?;
+    say_chain(rt, refusal)
 }
 
-fn say_final(page: Page, hops: u8) {
-    say_page(b"final ", page.0);
-    say_page(b" hops ", hops);
+fn say_final(rt: &impl Print, page: Page, hops: u8) -> io::Result<()> {
+    say_page(rt, b"final ", page.0)?;
+    say_page(rt, b" hops ", hops)
 }
 
-fn say_end(end: End) {
+fn say_end(rt: &impl Print, end: End) -> io::Result<()> {
     match end {
-        End::Refused(r) => say_refusal(r),
-        End::Final(page, hops) => say_final(page, hops),
+        End::Refused(r) => say_refusal(rt, r),
+        End::Final(page, hops) => say_final(rt, page, hops),
     }
 }
 
@@ -83,36 +84,36 @@ fn read(sheet: &[u8], page: u8, buffer: &mut [u8; 32]) -> Reading {
 
 // ---- what a page leads to
 
-fn say_named(byte: u8) {
+fn say_named(rt: &impl Print, byte: u8) -> io::Result<()> {
     if byte == 0xFF {
-        say(b"names no page");
+        say(rt, b"names no page")
     } else {
-        say_page(b"names page ", 255 - byte);
+        say_page(rt, b"names page ", 255 - byte)
     }
 }
 
-fn show_redirection(sheet: &[u8]) {
+fn show_redirection(rt: &impl Print, sheet: &[u8]) -> io::Result<()> {
     let last = Page(chip_memory::layout::DS2505);
     let byte = chip_memory::image::redirection_of(stored::image(sheet), last, Page(ASKED)).0;
-    say_page(b"page ", ASKED);
-    say(b": redirection byte ");
-    io::print_hex(STDOUT_FILENO, byte as u64, 2);
-    say(b"h ");
-    say_named(byte);
-    say_page(b", the last page is ", last.0);
-    say(b"\n");
+    say_page(rt, b"page ", ASKED)?;
+    say(rt, b": redirection byte ")?;
+    print!(rt; "{byte:02x}")?;
+    say(rt, b"h ")?;
+    say_named(rt, byte)?;
+    say_page(rt, b", the last page is ", last.0)?;
+    say(rt, b"\n")
 }
 
-fn show_read(sheet: &[u8], page: u8) {
+fn show_read(rt: &impl Print, sheet: &[u8], page: u8) -> io::Result<()> {
     let mut buffer = [0u8; 32];
     let reading = read(sheet, page, &mut buffer);
     let end = reading.end;
-    say_page(b"page ", page);
-    say(b" read over the bus: ");
-    say_end(end);
-    say(b", after ");
-    say_number(reading.events as u64);
-    say(b" events\n");
+    say_page(rt, b"page ", page)?;
+    say(rt, b" read over the bus: ")?;
+    say_end(rt, end)?;
+    say(rt, b", after ")?;
+    say_number(rt, reading.events as u64)?;
+    say(rt, b" events\n")
 }
 
 // ---- an update
@@ -146,7 +147,7 @@ fn read_after(sheet: &[u8], events: u32, buffer: &mut [u8; 32]) -> Reading {
 }
 
 fn are_same(a: &[u8; 32], b: &[u8; 32]) -> bool {
-    check::same(a, b)
+    a == b
 }
 
 fn is_old(sheet: &[u8], buffer: &[u8; 32]) -> bool {
@@ -155,31 +156,35 @@ fn is_old(sheet: &[u8], buffer: &[u8; 32]) -> bool {
     are_same(buffer, &old)
 }
 
-fn say_which(sheet: &[u8], buffer: &[u8; 32]) {
+fn say_which(rt: &impl Print, sheet: &[u8], buffer: &[u8; 32]) -> io::Result<()> {
     if is_old(sheet, buffer) {
-        say(b"the old page");
-        return;
+        return say(rt, b"the old page");
     }
     if are_same(buffer, &new_page()) {
-        say(b"the new page");
-        return;
+        return say(rt, b"the new page");
     }
-    say(b"neither page");
+    say(rt, b"neither page")
 }
 
 // What is read after an update of so many events, after the words for them.
-fn show_after(sheet: &[u8], before: &[u8], events: u32, after: &[u8]) {
+fn show_after(
+    rt: &impl Print,
+    sheet: &[u8],
+    before: &[u8],
+    events: u32,
+    after: &[u8],
+) -> io::Result<()> {
     let mut buffer = [0u8; 32];
     let reading = read_after(sheet, events, &mut buffer);
     let end = reading.end;
-    say_page(b"update of page ", UPDATED);
-    say(before);
-    say_number(events as u64);
-    say(after);
-    say_end(end);
-    say(b", ");
-    say_which(sheet, &buffer);
-    say(b"\n");
+    say_page(rt, b"update of page ", UPDATED)?;
+    say(rt, before)?;
+    say_number(rt, events as u64)?;
+    say(rt, after)?;
+    say_end(rt, end)?;
+    say(rt, b", ")?;
+    say_which(rt, sheet, &buffer)?;
+    say(rt, b"\n")
 }
 
 fn reads_old(sheet: &[u8], events: u32) -> bool {
@@ -199,50 +204,50 @@ fn last_old(sheet: &[u8]) -> u32 {
     end
 }
 
-fn show_cut(sheet: &[u8], events: u32) {
-    show_after(sheet, b", cut after event ", events, b": ");
+fn show_cut(rt: &impl Print, sheet: &[u8], events: u32) -> io::Result<()> {
+    show_after(rt, sheet, b", cut after event ", events, b": ")
 }
 
 // At the visible event, and at the one before it.
-fn show_cuts(sheet: &[u8]) {
+fn show_cuts(rt: &impl Print, sheet: &[u8]) -> io::Result<()> {
     let before = last_old(sheet);
     if before < whole() {
-        show_cut(sheet, before);
-        show_cut(sheet, before + 1);
+        show_cut(rt, sheet, before)?;
+        show_cut(rt, sheet, before + 1)?;
     }
+    Ok(())
 }
 
-fn show_update(sheet: &[u8]) {
+fn show_update(rt: &impl Print, sheet: &[u8]) -> io::Result<()> {
     let mut image = image_of(sheet);
     match update(sheet, &mut image, 0) {
         Updated::Refused(r) => {
-            say_page(b"update of page ", UPDATED);
-            say(b": ");
-            say_refusal(r);
-            say(b"\n");
+            say_page(rt, b"update of page ", UPDATED)?;
+            say(rt, b": ")?;
+            say_refusal(rt, r)?;
+            say(rt, b"\n")
         }
         Updated::Ran(_, _) => {
-            show_cuts(sheet);
-            show_after(sheet, b", all ", whole(), b" events: ");
+            show_cuts(rt, sheet)?;
+            show_after(rt, sheet, b", all ", whole(), b" events: ")
         }
     }
 }
 
-fn show(sheet: &[u8]) {
-    show_redirection(sheet);
-    program_listing::print(sheet);
-    show_read(sheet, ASKED);
-    show_read(sheet, UPDATED);
-    show_update(sheet);
+fn show(rt: &impl Print, sheet: &[u8]) -> io::Result<()> {
+    show_redirection(rt, sheet)?;
+    program_listing::print(rt, sheet)?;
+    show_read(rt, sheet, ASKED)?;
+    show_read(rt, sheet, UPDATED)?;
+    show_update(rt, sheet)
 }
 
 // One byte more than a sheet has is read, so that a longer input is refused.
-fn main() {
-    let mut input = [0u8; 2393];
-    let size = io::read_full(STDIN_FILENO, &mut input);
-    let sheet = &input[..size];
-    match stored::judge(sheet) {
-        Judged::Refused(_) => program_listing::print(sheet),
-        Judged::Accepted => show(sheet),
+fn main(rt: HostRuntime) -> io::Result<()> {
+    let mut input = Vec::new(rt.alloc());
+    rt.stdin().take(2393).read_to_end(&mut input)?;
+    match stored::judge(&input) {
+        Judged::Refused(_) => program_listing::print(&rt, &input),
+        Judged::Accepted => show(&rt, &input),
     }
 }

@@ -1,11 +1,12 @@
 // Lists the stored sheet on standard input.
 #![tactic(auto)]
 
-use libc::STDIN_FILENO;
+use std::io;
+use std::io::Read;
 
 // One byte more than a sheet has is read, so that a longer input is refused.
-fn main() {
-    let mut input = [0u8; 2393];
-    let size = io::read_full(STDIN_FILENO, &mut input);
-    program_listing::print(&input[..size]);
+fn main(rt: HostRuntime) -> io::Result<()> {
+    let mut input = Vec::new(rt.alloc());
+    rt.stdin().take(2393).read_to_end(&mut input)?;
+    program_listing::print(&rt, &input)
 }

@@ -4,7 +4,8 @@
 
 ghost use Rattle.std.specs.Prelude.{◌<◌};
 
-use libc::STDIN_FILENO;
+use std::io;
+use std::io::{ErrorKind, Read};
 
 fn wide(x: u8) -> usize
     ensures { result < 256 }
@@ -12,39 +13,55 @@ fn wide(x: u8) -> usize
     x as usize
 }
 
-// The length of the next sheet; more than 4,000 where there is none.
-fn next_size() -> usize {
-    let mut size = [0u8; 2];
-    if io::read_full(STDIN_FILENO, &mut size) < 2 {
-        return 0xFFFF;
+// Fills the bytes from the input; false where it ends first.
+fn read_full(input: &mut impl Read, bytes: &mut [u8]) -> io::Result<bool> {
+    match input.read_exact(bytes) {
+        Ok(()) => Ok(true),
+        Err(e) if e.kind() == ErrorKind::UnexpectedEof => Ok(false),
+        Err(e) => Err(e),
     }
-    wide(size[0]) + 256 * wide(size[1])
+}
+
+// The length of the next sheet; more than 4,000 where there is none.
+fn next_size(input: &mut impl Read) -> io::Result<usize> {
+    let mut size = [0u8; 2];
+    if !read_full(input, &mut size)? {
+        return Ok(0xFFFF);
+    }
+    Ok(wide(size[0]) + 256 * wide(size[1]))
 }
 
 // Reads a sheet of that length and lists it; false where there is no room for it or the input ends first.
-fn one(sheet: &mut [u8], size: usize) -> bool {
+fn one(
+    rt: &impl Print,
+    input: &mut impl Read,
+    sheet: &mut [u8],
+    size: usize,
+) -> io::Result<bool> {
     if sheet.len() < size {
-        return false;
+        return Ok(false);
     }
-    if io::read_full(STDIN_FILENO, &mut sheet[..size]) < size {
-        return false;
+    if !read_full(input, &mut sheet[..size])? {
+        return Ok(false);
     }
-    program_listing::print(&sheet[..size]);
-    true
+    program_listing::print(rt, &sheet[..size])?;
+    Ok(true)
 }
 
 // All sheets, a million at most.
-fn all(sheet: &mut [u8]) {
+fn all(rt: &impl Print, input: &mut impl Read, sheet: &mut [u8]) -> io::Result<()> {
     let mut turns: usize = 1000000;
     while 0 < turns {
-        if !one(sheet, next_size()) {
-            return;
+        let size = next_size(input)?;
+        if !one(rt, input, sheet, size)? {
+            return Ok(());
         }
         turns -= 1;
     }
+    Ok(())
 }
 
-fn main() {
+fn main(rt: HostRuntime) -> io::Result<()> {
     let mut sheet = [0u8; 4000];
-    all(&mut sheet);
+    all(&rt, &mut rt.stdin(), &mut sheet)
 }

@@ -8,9 +8,9 @@ ghost use Rattle.plug_sheet.specs.List.{room_for, refused_line};
 ghost use Rattle.program_listing.specs.Report.{report_of, report_buffer};
 
 use base_types::refusal::Refusal;
-use libc::STDOUT_FILENO;
 use plug_sheet::list;
 use plug_sheet::list::Listed;
+use std::io;
 
 // The line of a refusal into a buffer, and how many bytes it has.
 fn refusal(refusal: Refusal, text: &mut [u8]) -> usize
@@ -36,8 +36,8 @@ pub fn report(sheet: &[u8], text: &mut [u8; 1576]) -> usize
 }
 
 // A sheet's report on standard output.
-pub fn print(sheet: &[u8]) {
+pub fn print(rt: &impl Print, sheet: &[u8]) -> io::Result<()> {
     let mut text = [0u8; 1576];
     let size = report(sheet, &mut text);
-    io::write_all(STDOUT_FILENO, &text[..size]);
+    rt.write_all(&text[..size])
 }

@@ -1,51 +1,66 @@
 // The variation at a latitude and a column, the two arguments, of the stored sheet on standard input.
 #![tactic(auto)]
 
-use libc::{STDERR_FILENO, STDIN_FILENO};
+ghost use Rattle.std.specs.Prelude.{◌≤◌, length};
+
 use program_text::numeral;
 use program_text::numeral::{Signed, Unsigned};
+use std::env::{Env, FillError};
+use std::io;
+use std::io::Read;
 
-fn print_usage() {
-    io::write_all(
-        STDERR_FILENO,
-        b"usage: variation LATITUDE COLUMN <SHEET: the latitude in tenths of a degree, the column from 0, one to nine digits each\n",
-    );
+fn print_usage(rt: &impl Eprint) -> io::Result<()> {
+    eprintln!(rt; "usage: variation LATITUDE COLUMN <SHEET: the latitude in tenths of a degree, the column from 0, one to nine digits each")
 }
 
 // One byte more than a sheet has is read, so that a longer input is refused.
-fn answer(latitude: i32, column: u32) {
-    let mut input = [0u8; 2393];
-    let size = io::read_full(STDIN_FILENO, &mut input);
-    program_text::print_variation(plug_sheet_lookup::variation(&input[..size], latitude, column));
+fn answer(rt: &HostRuntime, latitude: i32, column: u32) -> io::Result<()> {
+    let mut input = Vec::new(rt.alloc());
+    rt.stdin().take(2393).read_to_end(&mut input)?;
+    program_text::print_variation(rt, plug_sheet_lookup::variation(&input, latitude, column))
 }
 
-// Of an argument that is longer than the text, os::arg gives no bytes, and no bytes are no number.
-fn latitude() -> Signed {
+// Whether there is such an argument; 0 is the program's name.
+fn has_arg(rt: &impl Env, i: usize) -> bool {
     let mut text = [0u8; 16];
-    let size = os::arg(1, &mut text);
+    !matches!(rt.arg(i, &mut text), Err(FillError::NotPresent))
+}
+
+// An argument's bytes into the text, and how many it has. One that is longer than the text gives none, and no bytes are no number.
+fn arg(rt: &impl Env, i: usize, text: &mut [u8]) -> usize
+    ensures { result ≤ length text.new }
+{
+    match rt.arg(i, text) {
+        Ok(size) => size,
+        Err(_) => 0,
+    }
+}
+
+fn latitude(rt: &impl Env) -> Signed {
+    let mut text = [0u8; 16];
+    let size = arg(rt, 1, &mut text);
     numeral::integer(&text[..size])
 }
 
-fn column() -> Unsigned {
+fn column(rt: &impl Env) -> Unsigned {
     let mut text = [0u8; 16];
-    let size = os::arg(2, &mut text);
+    let size = arg(rt, 2, &mut text);
     numeral::natural(&text[..size])
 }
 
-fn at_latitude(latitude: i32) {
-    match column() {
-        Unsigned::Faulty => print_usage(),
-        Unsigned::Number(x) => answer(latitude, x),
+fn at_latitude(rt: &HostRuntime, latitude: i32) -> io::Result<()> {
+    match column(rt) {
+        Unsigned::Faulty => print_usage(rt),
+        Unsigned::Number(x) => answer(rt, latitude, x),
     }
 }
 
-fn main() {
-    if os::arg_count() != 3 {
-        print_usage();
-        return;
+fn main(rt: HostRuntime) -> io::Result<()> {
+    if !has_arg(&rt, 2) || has_arg(&rt, 3) {
+        return print_usage(&rt);
     }
-    match latitude() {
-        Signed::Faulty => print_usage(),
-        Signed::Number(v) => at_latitude(v),
+    match latitude(&rt) {
+        Signed::Faulty => print_usage(&rt),
+        Signed::Number(v) => at_latitude(&rt, v),
     }
 }

@@ -7,7 +7,8 @@ ghost use Rattle.std.specs.Prelude.{◌≡◌, ◌<◌};
 ghost use Rattle.std.specs.Int.{w32};
 ghost use Rattle.std.proofs.Common.{to_z};
 
-use libc::STDIN_FILENO;
+use std::io;
+use std::io::{ErrorKind, Read};
 
 // Two 32-bit numbers, or the end of the input.
 #[derive(Clone, Copy)]
@@ -36,96 +37,119 @@ fn signed_of(x: u32) -> i32
     -1 - (0xFFFFFFFF - x) as i32
 }
 
-// The next 16-bit number; FFFFh where the input ends.
-fn next_word() -> usize {
-    let mut bytes = [0u8; 2];
-    if io::read_full(STDIN_FILENO, &mut bytes) < 2 {
-        return 0xFFFF;
+// Fills the bytes from the input; false where it ends first.
+fn read_full(input: &mut impl Read, bytes: &mut [u8]) -> io::Result<bool> {
+    match input.read_exact(bytes) {
+        Ok(()) => Ok(true),
+        Err(e) if e.kind() == ErrorKind::UnexpectedEof => Ok(false),
+        Err(e) => Err(e),
     }
-    base_tenths::word_of(bytes[0], bytes[1]) as usize
 }
 
-fn next_pair() -> Next {
-    let mut bytes = [0u8; 8];
-    if io::read_full(STDIN_FILENO, &mut bytes) < 8 {
-        return Next::End;
+// The next 16-bit number; FFFFh where the input ends.
+fn next_word(input: &mut impl Read) -> io::Result<usize> {
+    let mut bytes = [0u8; 2];
+    if !read_full(input, &mut bytes)? {
+        return Ok(0xFFFF);
     }
-    Next::Pair(
+    Ok(base_tenths::word_of(bytes[0], bytes[1]) as usize)
+}
+
+fn next_pair(input: &mut impl Read) -> io::Result<Next> {
+    let mut bytes = [0u8; 8];
+    if !read_full(input, &mut bytes)? {
+        return Ok(Next::End);
+    }
+    Ok(Next::Pair(
         number_of(bytes[0], bytes[1], bytes[2], bytes[3]),
         number_of(bytes[4], bytes[5], bytes[6], bytes[7]),
-    )
+    ))
 }
 
 // Answers one question on a sheet; false where the input ends.
-fn question(sheet: &[u8]) -> bool {
-    match next_pair() {
-        Next::End => false,
+fn question(rt: &impl Print, input: &mut impl Read, sheet: &[u8]) -> io::Result<bool> {
+    match next_pair(input)? {
+        Next::End => Ok(false),
         Next::Pair(latitude, column) => {
-            program_text::print_variation(plug_sheet_lookup::variation(
-                sheet,
-                signed_of(latitude),
-                column,
-            ));
-            true
+            program_text::print_variation(
+                rt,
+                plug_sheet_lookup::variation(sheet, signed_of(latitude), column),
+            )?;
+            Ok(true)
         }
     }
 }
 
-fn questions(sheet: &[u8], count: usize) -> bool {
+fn questions(
+    rt: &impl Print,
+    input: &mut impl Read,
+    sheet: &[u8],
+    count: usize,
+) -> io::Result<bool> {
     for _ in 0..count {
-        if !question(sheet) {
-            return false;
+        if !question(rt, input, sheet)? {
+            return Ok(false);
         }
     }
-    true
+    Ok(true)
 }
 
 // Reads a sheet of that length and answers its questions; false where there is no room for it or the input ends first.
-fn one(sheet: &mut [u8], size: usize) -> bool {
+fn one(
+    rt: &impl Print,
+    input: &mut impl Read,
+    sheet: &mut [u8],
+    size: usize,
+) -> io::Result<bool> {
     if sheet.len() < size {
-        return false;
+        return Ok(false);
     }
-    if io::read_full(STDIN_FILENO, &mut sheet[..size]) < size {
-        return false;
+    if !read_full(input, &mut sheet[..size])? {
+        return Ok(false);
     }
-    questions(&sheet[..size], next_word())
+    let count = next_word(input)?;
+    questions(rt, input, &sheet[..size], count)
 }
 
 // All sheets, a million at most.
-fn sheets(sheet: &mut [u8]) {
+fn sheets(rt: &impl Print, input: &mut impl Read, sheet: &mut [u8]) -> io::Result<()> {
     let mut turns: usize = 1000000;
     while 0 < turns {
-        if !one(sheet, next_word()) {
-            return;
+        let size = next_word(input)?;
+        if !one(rt, input, sheet, size)? {
+            return Ok(());
         }
         turns -= 1;
     }
+    Ok(())
 }
 
 // Tells one change; false where the input ends.
-fn change() -> bool {
-    match next_pair() {
-        Next::End => false,
+fn change(rt: &impl Print, input: &mut impl Read) -> io::Result<bool> {
+    match next_pair(input)? {
+        Next::End => Ok(false),
         Next::Pair(old, new) => {
-            program_text::print_change(base_tenths::change(signed_of(old), signed_of(new)));
-            true
+            program_text::print_change(rt, base_tenths::change(signed_of(old), signed_of(new)))?;
+            Ok(true)
         }
     }
 }
 
 // All changes, a million at most.
-fn changes() {
+fn changes(rt: &impl Print, input: &mut impl Read) -> io::Result<()> {
     let mut turns: usize = 1000000;
     while 0 < turns {
-        if !change() {
-            return;
+        if !change(rt, input)? {
+            return Ok(());
         }
         turns -= 1;
     }
+    Ok(())
 }
 
-fn main() {
+fn main(rt: HostRuntime) -> io::Result<()> {
     let mut sheet = [0u8; 4000];
-    sheets(&mut sheet);
-    changes();
+    let mut input = rt.stdin();
+    sheets(&rt, &mut input, &mut sheet)?;
+    changes(&rt, &mut input)
 }
