@@ -19,17 +19,17 @@ low : (reg : ℕ) → bit_and reg 1 ≡ reg % 2
 low reg = and_mask reg 1
 
 -- what `a == b` on two bools says
-beq-eq : (a b : Bool) → beq a b ≡ true → a ≡ b
-beq-eq true true h = refl
-beq-eq true false h = sym h
-beq-eq false true h = h
-beq-eq false false h = refl
+beq_eq : (a b : Bool) → beq a b ≡ true → a ≡ b
+beq_eq true true h = refl
+beq_eq true false h = sym h
+beq_eq false true h = h
+beq_eq false false h = refl
 
-beq-ne : (a b : Bool) → beq a b ≡ false → a ≡ not b
-beq-ne true true h = h
-beq-ne true false h = refl
-beq-ne false true h = refl
-beq-ne false false h = sym h
+beq_ne : (a b : Bool) → beq a b ≡ false → a ≡ not b
+beq_ne true true h = h
+beq_ne true false h = refl
+beq_ne false true h = refl
+beq_ne false false h = sym h
 
 module _ (p reg : ℕ) where
   stay : (bit : Bool) → (reg + one bit) % 2 ≡ 0 → reg / 2 ≡ crc_bit p reg bit
@@ -48,12 +48,12 @@ module _ (p reg : ℕ) where
   clear h = omega (arith, eqb-false (bit_and reg 1) 1 h, low reg)
 
   pub same : (bit : Bool) → beq (eqb (bit_and reg 1) 1) bit ≡ true → reg / 2 ≡ crc_bit p reg bit
-  same true h = stay true (omega (arith, set (beq-eq _ _ h)))
-  same false h = stay false (omega (arith, clear (beq-eq _ _ h)))
+  same true h = stay true (omega (arith, set (beq_eq _ _ h)))
+  same false h = stay false (omega (arith, clear (beq_eq _ _ h)))
 
   pub differs : (bit : Bool) → beq (eqb (bit_and reg 1) 1) bit ≡ false → bit_xor (reg / 2) p ≡ crc_bit p reg bit
-  differs true h = flip true (omega (arith, clear (beq-ne _ _ h)))
-  differs false h = flip false (omega (arith, set (beq-ne _ _ h)))
+  differs true h = flip true (omega (arith, clear (beq_ne _ _ h)))
+  differs false h = flip false (omega (arith, set (beq_ne _ _ h)))
 
 -- the next of the bits that are left
 pub next_bit : (p r b left : ℕ) {r' : ℕ} → 0 < left → r' ≡ crc_bit p r (eqb (bit_and b 1) 1)
@@ -69,11 +69,11 @@ unfolding crc_bits bits_of
 done p r b left e = sym (ap (λ (n : ℕ). crc_bits p r (bits_of n b)) e)
 
 -- the next of the bytes that are left
-pub next-byte : (p r : ℕ) (l : List ℕ) (i : ℕ) {r' : ℕ} → i < length l → r' ≡ crc_byte p r (get_or l i 0)
+pub next_byte : (p r : ℕ) (l : List ℕ) (i : ℕ) {r' : ℕ} → i < length l → r' ≡ crc_byte p r (get_or l i 0)
     → crc_bytes p r' (drop (i + 1) l) ≡ crc_bytes p r (drop i l)
 unfolding crc_bytes
-next-byte p r l i h e = rw (add-one, drop-cons l i 0, e)
+next_byte p r l i h e = rw (add-one, drop-cons l i 0, e)
 
-pub done-bytes : (p r : ℕ) (l : List ℕ) (i : ℕ) → length l ≤ i → r ≡ crc_bytes p r (drop i l)
+pub done_bytes : (p r : ℕ) (l : List ℕ) (i : ℕ) → length l ≤ i → r ≡ crc_bytes p r (drop i l)
 unfolding crc_bytes
-done-bytes p r l i h = rw drop_of_length-le
+done_bytes p r l i h = rw drop_of_length-le

@@ -10,27 +10,27 @@ use lib.Dec.{lit<}
 use lib.ListN.{get_or}
 use Rattle.base_types.specs.Bits.{bits_of}
 use Rattle.base_types.specs.Scan.{values_from}
-use Rattle.base_types.proofs.Words.{bits-low}
+use Rattle.base_types.proofs.Words.{bits_low}
 use Rattle.base_crc.specs.Crc.{crc_bits, crc_byte}
 use Rattle.base_crc.specs.Table.{entries_of, table_of, low_nibbles_of, high_nibbles_of, entry_index, step_by, step_by_nibbles, TableLaws}
 use Rattle.base_crc.proofs.Linear.{xor_assoc, linear, apart}
 
-value-at : (f : ℕ → ℕ) (n i k : ℕ) → k < n → get_or (values_from f i n) k 0 ≡ f (i + k)
+value_at : (f : ℕ → ℕ) (n i k : ℕ) → k < n → get_or (values_from f i n) k 0 ≡ f (i + k)
 unfolding values_from
-value-at f zero i k h = absurd (not-suc-le-zero h)
-value-at f (suc n) i zero h = ap f (sym (add-zero i))
-value-at f (suc n) i (suc k) h = value-at f n (i + 1) k (le_of_suc-le-suc h) ∙ ap f (omega arith)
+value_at f zero i k h = absurd (not-suc-le-zero h)
+value_at f (suc n) i zero h = ap f (sym (add-zero i))
+value_at f (suc n) i (suc k) h = value_at f n (i + 1) k (le_of_suc-le-suc h) ∙ ap f (omega arith)
 
-xor-swapped : (a b c : ℕ) → bit_xor (bit_xor a b) c ≡ bit_xor (bit_xor a c) b
-xor-swapped a b c = xor_assoc a b c ∙ ap (bit_xor a) (xor_comm b c) ∙ sym (xor_assoc a c b)
+xor_swapped : (a b c : ℕ) → bit_xor (bit_xor a b) c ≡ bit_xor (bit_xor a c) b
+xor_swapped a b c = xor_assoc a b c ∙ ap (bit_xor a) (xor_comm b c) ∙ sym (xor_assoc a c b)
 
-place-lt : (reg byte : ℕ) → entry_index reg byte < 256
-place-lt reg byte = mod-lt (bit_xor reg byte) (lit< tt)
+place_lt : (reg byte : ℕ) → entry_index reg byte < 256
+place_lt reg byte = mod-lt (bit_xor reg byte) (lit< tt)
 
 module _ (p : ℕ) where
   entry_at : (n d k : ℕ) → k < n → get_or (entries_of p n d) k 0 ≡ crc_byte p 0 (k * d)
   unfolding entries_of
-  entry_at n d k h = value-at (λ (j : ℕ). crc_byte p 0 (j * d)) n 0 k h ∙ ap (λ (j : ℕ). crc_byte p 0 (j * d)) (zero-add k)
+  entry_at n d k h = value_at (λ (j : ℕ). crc_byte p 0 (j * d)) n 0 k h ∙ ap (λ (j : ℕ). crc_byte p 0 (j * d)) (zero-add k)
 
   entry : (k : ℕ) → k < 256 → get_or (table_of p) k 0 ≡ crc_byte p 0 k
   entry k h = entry_at 256 1 k h ∙ ap (crc_byte p 0) (mul-one k)
@@ -38,11 +38,11 @@ module _ (p : ℕ) where
   -- the byte's eight bit steps, from the register shifted and the place's
   at_place : (reg byte : ℕ) → bit_xor (reg / 256) (crc_byte p 0 (entry_index reg byte)) ≡ crc_byte p reg byte
   unfolding crc_byte
-  at_place reg byte = ap (bit_xor (reg / 256)) (ap (crc_bits p 0) (bits-low 8 (bit_xor reg byte))) ∙ sym (apart p 8 reg byte)
+  at_place reg byte = ap (bit_xor (reg / 256)) (ap (crc_bits p 0) (bits_low 8 (bit_xor reg byte))) ∙ sym (apart p 8 reg byte)
 
   step : (reg byte : ℕ) → step_by (table_of p) reg byte ≡ crc_byte p reg byte
   unfolding step_by
-  step reg byte = ap (bit_xor (reg / 256)) (entry (entry_index reg byte) (place-lt reg byte)) ∙ at_place reg byte
+  step reg byte = ap (bit_xor (reg / 256)) (entry (entry_index reg byte) (place_lt reg byte)) ∙ at_place reg byte
 
   -- a byte's entry, from those of its nibbles
   split : (x : ℕ) → bit_xor (crc_byte p 0 (x % 16 * 1)) (crc_byte p 0 (x / 16 * 16)) ≡ crc_byte p 0 x
@@ -56,16 +56,16 @@ module _ (p : ℕ) where
   unfolding step_by_nibbles
   nibbles reg byte =
       let x : ℕ = entry_index reg byte in
-      let high : x / 16 < 16 = omega (arith, place-lt reg byte) in
+      let high : x / 16 < 16 = omega (arith, place_lt reg byte) in
       ap (bit_xor (reg / 256)) (ap₂ bit_xor (entry_at 16 1 (x % 16) (mod-lt x (lit< tt))) (entry_at 16 16 (x / 16) high) ∙ split x)
       ∙ at_place reg byte
 
   -- ---- a register that is kept as the xor of a rest and of the entry at a place
 
   -- any register, as the rest, with the place 0
-  pub kept-first : (reg : ℕ) → bit_xor reg (get_or (table_of p) 0 0) ≡ reg
+  pub kept_first : (reg : ℕ) → bit_xor reg (get_or (table_of p) 0 0) ≡ reg
   unfolding crc_byte
-  kept-first reg =
+  kept_first reg =
       ap (bit_xor reg) (entry 0 (lit< tt) ∙ linear p 8 0 0 0 0 ∙ xor_self (crc_byte p 0 0)) ∙ xor_zero_r reg
 
   -- the register after one more byte, e being the entry
@@ -73,8 +73,8 @@ module _ (p : ℕ) where
       → bit_xor (bit_xor rest e / 256) (get_or (table_of p) place 0) ≡ crc_byte p (bit_xor rest e) byte
   unfolding step_by
   kept_next rest byte e h =
-      ap (λ (x : ℕ). bit_xor (bit_xor rest e / 256) (get_or (table_of p) x 0)) (h ∙ ap (λ (x : ℕ). x % 256) (xor-swapped rest byte e))
+      ap (λ (x : ℕ). bit_xor (bit_xor rest e / 256) (get_or (table_of p) x 0)) (h ∙ ap (λ (x : ℕ). x % 256) (xor_swapped rest byte e))
       ∙ step (bit_xor rest e) byte
 
-  pub table-laws : TableLaws p
-  table-laws = record { entry = entry; step = step; nibbles = nibbles }
+  pub table_laws : TableLaws p
+  table_laws = record { entry = entry; step = step; nibbles = nibbles }

@@ -14,11 +14,11 @@ abbrev pub crc8_polynomial : ℕ
 crc8_polynomial = 0x8C
 
 -- x^16 + x^15 + x^2 + 1
-pub crc16-powers : crc16_polynomial ≡ reflected 16 (15 ∷ 2 ∷ 0 ∷ [])
+pub crc16_powers : crc16_polynomial ≡ reflected 16 (15 ∷ 2 ∷ 0 ∷ [])
 unfolding reflected
-crc16-powers = refl
+crc16_powers = refl
 
 -- x^8 + x^5 + x^4 + 1
-pub crc8-powers : crc8_polynomial ≡ reflected 8 (5 ∷ 4 ∷ 0 ∷ [])
+pub crc8_powers : crc8_polynomial ≡ reflected 8 (5 ∷ 4 ∷ 0 ∷ [])
 unfolding reflected
-crc8-powers = refl
+crc8_powers = refl

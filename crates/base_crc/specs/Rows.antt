@@ -15,6 +15,6 @@ crc_rows =
     ∷ (crc16_from 0 (0x31 ∷ 0x32 ∷ 0x33 ∷ 0x34 ∷ 0x35 ∷ 0x36 ∷ 0x37 ∷ 0x38 ∷ 0x39 ∷ []) gives 0xBB3D)
     ∷ []
 
-pub crc_rows-hold : Hold crc_rows
+pub crc_rows_hold : Hold crc_rows
 unfolding crc_rows crc_bytes crc_byte crc_bits crc_bit bits_of
-crc_rows-hold = refl
+crc_rows_hold = refl

@@ -21,6 +21,6 @@ change_rows =
     ∷ (change_answer (neg_ℤ (pos 1801)) (pos 0) gives refused 19 [])
     ∷ []
 
-pub change_rows-hold : Hold change_rows
+pub change_rows_hold : Hold change_rows
 unfolding change_rows change_answer is_value fold_of signed_of
-change_rows-hold = refl
+change_rows_hold = refl

@@ -56,7 +56,7 @@ change_answer old new = judge (is_value old && is_value new) 19 (accepted (fold_
 
 pub record TenthsLaws : Type 0 where
   -- two bytes are read as the kit reads sixteen bits
-  pub two's-complement : (x : ℕ) → x < 0x10000 → signed_of x ≡ to_z w16 x
+  pub two's_complement : (x : ℕ) → x < 0x10000 → signed_of x ≡ to_z w16 x
   -- the low sixteen bits of a value stand for it
   pub back : (v : ℤ) → is_value v ≡ true → signed_of (low_bits v) ≡ v
   -- the change told is new less old, brought into the range of values by whole turns ..

@@ -7,8 +7,8 @@ use native.Mathlib.Nat.{mul_assoc, mul_comm, add-mul, mul-add, pow-suc}
 use native.Mathlib.Omega.{arith}
 use lib.ListN.{length}
 use Rattle.base_types.specs.Bits.{one, bits_of}
-use Rattle.base_types.proofs.Values.{value_of, value-of}
-use Rattle.base_types.proofs.Words.{bits-length}
+use Rattle.base_types.proofs.Values.{value_of, value_of_lem}
+use Rattle.base_types.proofs.Words.{bits_length}
 
 -- the register after these bits; a bit that comes in counts top
 abbrev pub gathered : ℕ → ℕ → List Bool → ℕ
@@ -38,8 +38,8 @@ gathers top (false ∷ bs) (suc n) w u l k =
 abbrev pub collect : ℕ → List Bool → ℕ
 collect v bs = gathered 128 v bs
 
-pub byte-held : (bs : List Bool) → length bs ≡ 8 → collect 0 bs ≡ value_of bs
-byte-held bs l = gathers 128 bs 8 1 0 l refl ∙ omega arith
+pub byte_held : (bs : List Bool) → length bs ≡ 8 → collect 0 bs ≡ value_of bs
+byte_held bs l = gathers 128 bs 8 1 0 l refl ∙ omega arith
 
 pub collected : (byte : ℕ) → byte < 256 → collect 0 (bits_of 8 byte) ≡ byte
-collected byte h = byte-held (bits_of 8 byte) (bits-length 8 byte) ∙ value-of 8 byte h
+collected byte h = byte_held (bits_of 8 byte) (bits_length 8 byte) ∙ value_of_lem 8 byte h

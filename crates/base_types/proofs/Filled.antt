@@ -18,9 +18,9 @@ filled_is (d ∷ ds) bytes k l =
 
 -- ---- an output that is filled place by place: what stands before place i, and then the rest, is the whole
 
-pub fill-next : (out rest rest' whole : List ℕ) (i b : ℕ) → i < length out → rest ≡ b ∷ rest' → take i out ++ rest ≡ whole
+pub fill_next : (out rest rest' whole : List ℕ) (i b : ℕ) → i < length out → rest ≡ b ∷ rest' → take i out ++ rest ≡ whole
     → take (i + 1) (set out i b) ++ rest' ≡ whole
-fill-next out rest rest' whole i b h r e =
+fill_next out rest rest' whole i b h r e =
     ap (λ (x : List ℕ). x ++ rest') (ap (λ (n : ℕ). take n (set out i b)) (add-one i) ∙ take-suc-set out i b h)
     ∙ append_assoc (take i out) (b ∷ []) rest'
     ∙ ap (λ (x : List ℕ). take i out ++ x) (sym r)

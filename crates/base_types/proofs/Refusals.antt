@@ -28,5 +28,5 @@ back Column = refl
 back NoValue = refl
 back (DataProtected l) = refl
 
-pub refusal-laws : RefusalLaws
-refusal-laws = record { back = back; same = λ r s e v. sym (back r) ∙ ap₂ refusal_of e v ∙ back s }
+pub refusal_laws : RefusalLaws
+refusal_laws = record { back = back; same = λ r s e v. sym (back r) ∙ ap₂ refusal_of e v ∙ back s }

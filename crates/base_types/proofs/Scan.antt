@@ -12,47 +12,47 @@ module _ (t : ℕ → Bool) (n i : ℕ) where
   ahead : i < n → n - i ≡ suc (n - (i + 1))
   ahead lt = omega arith
 
-  pub every-fails : i < n → t i ≡ false → every t (n - i) i ≡ false
+  pub every_fails : i < n → t i ≡ false → every t (n - i) i ≡ false
   unfolding every
-  every-fails lt e = rw (ahead lt) (simp e)
+  every_fails lt e = rw (ahead lt) (simp e)
 
-  pub every-goes-on : i < n → t i ≡ true → every t (n - i) i ≡ every t (n - (i + 1)) (i + 1)
+  pub every_goes_on : i < n → t i ≡ true → every t (n - i) i ≡ every t (n - (i + 1)) (i + 1)
   unfolding every
-  every-goes-on lt e = ap (λ k. every t k i) (ahead lt) ∙ simp e
+  every_goes_on lt e = ap (λ k. every t k i) (ahead lt) ∙ simp e
 
-  pub every-over : n ≤ i → every t (n - i) i ≡ true
+  pub every_over : n ≤ i → every t (n - i) i ≡ true
   unfolding every
-  every-over le = let e : n - i ≡ 0 = omega arith in ap (λ k. every t k i) e
+  every_over le = let e : n - i ≡ 0 = omega arith in ap (λ k. every t k i) e
 
-  pub count-more : i < n → t i ≡ true → count t (n - i) i ≡ count t (n - (i + 1)) (i + 1) + 1
+  pub count_more : i < n → t i ≡ true → count t (n - i) i ≡ count t (n - (i + 1)) (i + 1) + 1
   unfolding count
-  count-more lt e = ap (λ k. count t k i) (ahead lt) ∙ simp e
+  count_more lt e = ap (λ k. count t k i) (ahead lt) ∙ simp e
 
   pub count_same : i < n → t i ≡ false → count t (n - i) i ≡ count t (n - (i + 1)) (i + 1)
   unfolding count
   count_same lt e = ap (λ k. count t k i) (ahead lt) ∙ simp e
 
-  pub count-over : n ≤ i → count t (n - i) i ≡ 0
+  pub count_over : n ≤ i → count t (n - i) i ≡ 0
   unfolding count
-  count-over le = let e : n - i ≡ 0 = omega arith in ap (λ k. count t k i) e
+  count_over le = let e : n - i ≡ 0 = omega arith in ap (λ k. count t k i) e
 
 -- what the tests mean
 pub both_true : (a b : Bool) → (a && b) ≡ true → (a ≡ true) × (b ≡ true)
 both_true true b e = (refl, e)
 both_true false b e = (e, absurd (let z : ◌≡◌ {A = ℕ} 0 1 = cc in omega arith))
 
-pub both-intro : (a b : Bool) → a ≡ true → b ≡ true → (a && b) ≡ true
-both-intro a b e f = simp (e, f)
+pub both_intro : (a b : Bool) → a ≡ true → b ≡ true → (a && b) ≡ true
+both_intro a b e f = simp (e, f)
 
 module _ (t : ℕ → Bool) where
-  pub every-means : (k q : ℕ) → every t k q ≡ true → (i : ℕ) → q ≤ i → i < q + k → t i ≡ true
+  pub every_means : (k q : ℕ) → every t k q ≡ true → (i : ℕ) → q ≤ i → i < q + k → t i ≡ true
   unfolding every
-  every-means zero q e i le lt = absurd (omega arith)
-  every-means (suc k) q e i le lt =
+  every_means zero q e i le lt = absurd (omega arith)
+  every_means (suc k) q e i le lt =
       let w = both_true (t q) (every t k (q + 1)) e in
-      ⊎_elim (λ (s : q ≡ i). ap t (sym s) ∙ w.0) (λ (s : q < i). every-means k (q + 1) w.1 i (omega arith) (omega arith)) (eq-or-lt_of_le le)
+      ⊎_elim (λ (s : q ≡ i). ap t (sym s) ∙ w.0) (λ (s : q < i). every_means k (q + 1) w.1 i (omega arith) (omega arith)) (eq-or-lt_of_le le)
 
-  pub every-intro : (k q : ℕ) → ((i : ℕ) → q ≤ i → i < q + k → t i ≡ true) → every t k q ≡ true
+  pub every_intro : (k q : ℕ) → ((i : ℕ) → q ≤ i → i < q + k → t i ≡ true) → every t k q ≡ true
   unfolding every
-  every-intro zero q f = refl
-  every-intro (suc k) q f = both-intro (t q) (every t k (q + 1)) (f q (omega arith) (omega arith)) (every-intro k (q + 1) (λ i a b. f i (omega arith) (omega arith)))
+  every_intro zero q f = refl
+  every_intro (suc k) q f = both_intro (t q) (every t k (q + 1)) (f q (omega arith) (omega arith)) (every_intro k (q + 1) (λ i a b. f i (omega arith) (omega arith)))

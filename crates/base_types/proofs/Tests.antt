@@ -5,7 +5,7 @@ use mathlib.Core.Path.{◌≡◌, refl, sym}
 use native.Mathlib.Omega.{arith}
 use lib.Dec.{ltb, leb}
 use borrow.Author.Tests.{lt-leb, le-leb, ltb-true, ltb-false}
-use Rattle.base_types.specs.Outcome.{accepted, done, in_order}
+use Rattle.base_types.specs.Outcome.{accepted, done, in_order_lem}
 
 -- two tests, one after the other: both hold, or the second alone
 pub both : (t x : Bool) → cond t x false ≡ true → (t ≡ true) × (x ≡ true)
@@ -25,16 +25,16 @@ pub and_right : (p q : Bool) → (p && q) ≡ true → q ≡ true
 and_right true q e = e
 and_right false q e = cc
 
-pub and-true : (p : Bool) → (p && true) ≡ p
-and-true true = refl
-and-true false = refl
+pub and_true : (p : Bool) → (p && true) ≡ p
+and_true true = refl
+and_true false = refl
 
 pub and_assoc : (p q r : Bool) → ((p && q) && r) ≡ (p && (q && r))
 and_assoc true q r = refl
 and_assoc false q r = refl
 
 -- what is accepted in order is right in each part
-pub in_order_lem : (image ranges lengths : Bool) → in_order image ranges lengths ≡ accepted done → (image ≡ true) × ((ranges ≡ true) × (lengths ≡ true))
+pub in_order_lem : (image ranges lengths : Bool) → in_order_lem image ranges lengths ≡ accepted done → (image ≡ true) × ((ranges ≡ true) × (lengths ≡ true))
 in_order_lem true true true e = (refl, (refl, refl))
 in_order_lem true true false e = absurd (let y : ◌≡◌ {A = ℕ} 0 1 = cc in omega arith)
 in_order_lem true false lengths e = absurd (let y : ◌≡◌ {A = ℕ} 0 1 = cc in omega arith)
@@ -53,11 +53,11 @@ beyond n x = go (ltb x n) refl
     go true e = sym (lt-leb n x (ltb-true x n e))
     go false e = sym (le-leb n x (ltb-false x n e))
 
-pub cond-true : (t x : Bool) → cond t x false ≡ true → x ≡ true
-cond-true t x h = (both t x h).1
+pub cond_true : (t x : Bool) → cond t x false ≡ true → x ≡ true
+cond_true t x h = (both t x h).1
 
-pub cond-right : (t x : Bool) → cond t false x ≡ true → x ≡ true
-cond-right t x h = (neither t x h).1
+pub cond_right : (t x : Bool) → cond t false x ≡ true → x ≡ true
+cond_right t x h = (neither t x h).1
 
-pub cond-left : (t x : Bool) → cond t false x ≡ true → t ≡ false
-cond-left t x h = (neither t x h).0
+pub cond_left : (t x : Bool) → cond t false x ≡ true → t ≡ false
+cond_left t x h = (neither t x h).0

@@ -12,12 +12,12 @@ coded Reset = refl
 coded Pulse = refl
 coded PowerLoss = refl
 
-event-back : (e : Event) → event_of (code_of e) ≡ e
-event-back (Slot true) = refl
-event-back (Slot false) = refl
-event-back Reset = refl
-event-back Pulse = refl
-event-back PowerLoss = refl
+event_back : (e : Event) → event_of (code_of e) ≡ e
+event_back (Slot true) = refl
+event_back (Slot false) = refl
+event_back Reset = refl
+event_back Pulse = refl
+event_back PowerLoss = refl
 
 pub code_laws : CodeLaws
-code_laws = record { coded = coded; back = event-back }
+code_laws = record { coded = coded; back = event_back }

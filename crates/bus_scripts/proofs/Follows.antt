@@ -27,15 +27,15 @@ pub data Follows {S : Type 0} (step : S → Bool → S) (show : S → Outcome Ne
       → show t ≡ accepted (tells values) → hand t ≡ [] → ((r : Bool) → step t r ≡ t) → Follows step show hand s (gives values bytes)
 
 module _ {S : Type 0} {step : S → Bool → S} {show : S → Outcome Next} {hand : S → List ℕ} where
-  pub shown-is : {s : S} {script : Script} → Follows step show hand s script → show s ≡ outcome_at script
-  shown-is (sending a b c) = a
-  shown-is (stopping a b c) = a
-  shown-is (giving a b c d e f) = a
+  pub shown_is : {s : S} {script : Script} → Follows step show hand s script → show s ≡ outcome_at script
+  shown_is (sending a b c) = a
+  shown_is (stopping a b c) = a
+  shown_is (giving a b c d e f) = a
 
-  pub handed-is : {s : S} {script : Script} → Follows step show hand s script → hand s ≡ handed_at script
-  handed-is (sending a b c) = b
-  handed-is (stopping a b c) = b
-  handed-is (giving a b c d e f) = b
+  pub handed_is : {s : S} {script : Script} → Follows step show hand s script → hand s ≡ handed_at script
+  handed_is (sending a b c) = b
+  handed_is (stopping a b c) = b
+  handed_is (giving a b c d e f) = b
 
   pub onward : {s : S} {script : Script} → Follows step show hand s script → (r : Bool) → Follows step show hand (step s r) (follow script r)
   onward (sending a b c) r = c r
@@ -76,20 +76,20 @@ module _ {S : Type 0} {step : S → Bool → S} {show : S → Outcome Next} {han
       (more : (k : ℕ) (bytes : List ℕ) (on : ℕ → Script) → k < end → ((v : ℕ) → Follows step show hand (at (k + 1) (set bytes k v)) (on v))
       → Follows step show hand (at k bytes) (read_byte on))
       (last : (bytes : List ℕ) (on : ℕ → Script) → ((v : ℕ) → Follows step show hand (done (set bytes end v)) (on v)) → Follows step show hand (at end bytes) (read_byte on)) where
-    bytes-from : (m k : ℕ) (bytes : List ℕ) (on : List ℕ → Script) → k + m ≡ end
+    bytes_from : (m k : ℕ) (bytes : List ℕ) (on : List ℕ → Script) → k + m ≡ end
         → ((ds : List ℕ) → length ds ≡ suc m → Follows step show hand (done (filled bytes k ds)) (on ds)) → Follows step show hand (at k bytes) (read_bytes (suc m) on)
     unfolding read_bytes
-    bytes-from zero k bytes on l f =
+    bytes_from zero k bytes on l f =
         let e : k ≡ end = omega arith in
         rw e (last bytes (λ byte. on (byte ∷ [])) (λ v. rw e at (f (v ∷ []) refl)))
-    bytes-from (suc m) k bytes on l f =
+    bytes_from (suc m) k bytes on l f =
         more k bytes (λ byte. read_bytes (suc m) (λ rest. on (byte ∷ rest))) (omega arith)
-        (λ v. bytes-from m (k + 1) (set bytes k v) (λ rest. on (v ∷ rest)) (omega arith) (λ ds e. f (v ∷ ds) (ap suc e)))
+        (λ v. bytes_from m (k + 1) (set bytes k v) (λ rest. on (v ∷ rest)) (omega arith) (λ ds e. f (v ∷ ds) (ap suc e)))
 
-    pub receiving-bytes : (bytes : List ℕ) (on : List ℕ → Script) → length bytes ≡ suc end
+    pub receiving_bytes : (bytes : List ℕ) (on : List ℕ → Script) → length bytes ≡ suc end
         → ((ds : List ℕ) → length ds ≡ suc end → Follows step show hand (done ds) (on ds)) → Follows step show hand (at 0 bytes) (read_bytes (suc end) on)
-    receiving-bytes bytes on l f =
-        bytes-from end 0 bytes on (zero-add end)
+    receiving_bytes bytes on l f =
+        bytes_from end 0 bytes on (zero-add end)
         (λ ds e. subst (λ (x : List ℕ). Follows step show hand (done x) (on ds)) (sym (filled_is ds bytes 0 (omega arith))) (f ds e))
 
   -- ---- calls, where the caller's state c is seen as the machine's state s
@@ -97,9 +97,9 @@ module _ {S : Type 0} {step : S → Bool → S} {show : S → Outcome Next} {han
   module _ {C : Type 0} (call : C → Bool → C) (told : C → Bool → Outcome Next) (Sees : C → S → Type 0)
       (sees-step : (c : C) (s : S) (r : Bool) → Sees c s → Sees (call c r) (step s r))
       (told_is : (c : C) (s : S) (r : Bool) → Sees c s → told c r ≡ show (step s r)) where
-    pub plays-from : (rs : List Bool) (c : C) (s : S) (on : Bool → Script) → Sees c s → ((r : Bool) → Follows step show hand (step s r) (on r))
+    pub plays_from : (rs : List Bool) (c : C) (s : S) (on : Bool → Script) → Sees c s → ((r : Bool) → Follows step show hand (step s r) (on r))
         → answers call told c rs ≡ play_from on rs
-    plays-from [] c s on sees f = refl
-    plays-from (r ∷ rs) c s on sees f =
-        ap₂ (λ (a : Outcome Next) (l : List (Outcome Next)). a ∷ l) (told_is c s r sees ∙ shown-is (f r))
-        (plays-from rs (call c r) (step s r) (follow (on r)) (sees-step c s r sees) (onward (f r)))
+    plays_from [] c s on sees f = refl
+    plays_from (r ∷ rs) c s on sees f =
+        ap₂ (λ (a : Outcome Next) (l : List (Outcome Next)). a ∷ l) (told_is c s r sees ∙ shown_is (f r))
+        (plays_from rs (call c r) (step s r) (follow (on r)) (sees-step c s r sees) (onward (f r)))

@@ -15,7 +15,7 @@ use Rattle.bus_events.specs.Slots.{slots, reading}
 use Rattle.bus_scripts.specs.Joint.{Begins}
 use Rattle.bus_scripts.specs.Next.{Next, send, tells, events_of}
 use Rattle.bus_scripts.specs.Script.{Script, stops, gives, sends, check_with, reset, send_event, send_bits, read_bits, read_bytes, outcome_at, follow, play_from, play, telling, play_on}
-use Rattle.bus_scripts.proofs.Ended.{end-repeats}
+use Rattle.bus_scripts.proofs.Ended.{end_repeats}
 
 -- whatever the replies, the events are the first of these, and all of them where it gives its result
 pub data Keeps : Script → List Event → Type 0 where
@@ -24,45 +24,45 @@ pub data Keeps : Script → List Event → Type 0 where
   sending : {event : Event} {on : Bool → Script} {es : List Event} → ((reply : Bool) → Keeps (on reply) es) → Keeps (sends event on) (event ∷ es)
 
 module _ (rs : List Bool) (more : (on : Bool → Script) (es : List Event) → ((reply : Bool) → Keeps (on reply) es) → Begins es (events_of (play_from on rs))) where
-  order-at : {x : Script} {es : List Event} → Keeps x es → Begins es (events_of (outcome_at x ∷ play_from (follow x) rs))
+  order_at : {x : Script} {es : List Event} → Keeps x es → Begins es (events_of (outcome_at x ∷ play_from (follow x) rs))
   unfolding events_of
-  order-at (stopping {number} {values} {es}) = more (follow (stops number values)) es (λ reply. stopping)
-  order-at (giving {values} {bytes}) = more (follow (gives values bytes)) [] (λ reply. giving)
-  order-at (sending {event} {on} {es} h) = let b = more on es h in record { rest = b.rest; is = ap (λ (l : List Event). event ∷ l) b.is }
+  order_at (stopping {number} {values} {es}) = more (follow (stops number values)) es (λ reply. stopping)
+  order_at (giving {values} {bytes}) = more (follow (gives values bytes)) [] (λ reply. giving)
+  order_at (sending {event} {on} {es} h) = let b = more on es h in record { rest = b.rest; is = ap (λ (l : List Event). event ∷ l) b.is }
 
 order_from : (rs : List Bool) (on : Bool → Script) (es : List Event) → ((reply : Bool) → Keeps (on reply) es) → Begins es (events_of (play_from on rs))
 unfolding events_of
 order_from [] on es h = record { rest = es; is = refl }
-order_from (r ∷ rs) on es h = order-at rs (order_from rs) (h r)
+order_from (r ∷ rs) on es h = order_at rs (order_from rs) (h r)
 
 pub ordered : {script : Script} {es : List Event} → Keeps script es → (replies : List Bool) → Begins es (events_of (play script replies))
 ordered {script} {es} h replies = order_from replies (λ first. script) es (λ first. h)
 
 -- on a bus where it gives its result, it sends them all
-pub all-sent : {B : Type 0} (react : B → Event → B) (line : B → Event → Bool) {script : Script} {es : List Event} → Keeps script es → (b : B) (values : List ℕ)
+pub all_sent : {B : Type 0} (react : B → Event → B) (line : B → Event → Bool) {script : Script} {es : List Event} → Keeps script es → (b : B) (values : List ℕ)
     → (play_on react line script b).told ≡ accepted (tells values) → (play_on react line script b).events ≡ es
 unfolding play_on
-all-sent react line stopping b values e = absurd (let z : ◌≡◌ {A = ℕ} 0 1 = cc in omega arith)
-all-sent react line giving b values e = refl
-all-sent react line (sending {event} h) b values e =
-    ap (λ (l : List Event). event ∷ l) (all-sent react line (h (line b event)) (react b event) values e)
+all_sent react line stopping b values e = absurd (let z : ◌≡◌ {A = ℕ} 0 1 = cc in omega arith)
+all_sent react line giving b values e = refl
+all_sent react line (sending {event} h) b values e =
+    ap (λ (l : List Event). event ∷ l) (all_sent react line (h (line b event)) (react b event) values e)
 
 -- ---- the combinators
 
-pub check-keeps : (test : Bool) (number : ℕ) (values : List ℕ) {on : Script} {es : List Event} → Keeps on es → Keeps (check_with test number values on) es
-check-keeps true number values h = h
-check-keeps false number values h = stopping
+pub check_keeps : (test : Bool) (number : ℕ) (values : List ℕ) {on : Script} {es : List Event} → Keeps on es → Keeps (check_with test number values on) es
+check_keeps true number values h = h
+check_keeps false number values h = stopping
 
-pub reset-keeps : {on : Script} {es : List Event} → Keeps on es → Keeps (reset on) (bus.reset ∷ es)
-reset-keeps h = sending (λ reply. check-keeps (not reply) 13 [] h)
+pub reset_keeps : {on : Script} {es : List Event} → Keeps on es → Keeps (reset on) (bus.reset ∷ es)
+reset_keeps h = sending (λ reply. check_keeps (not reply) 13 [] h)
 
-pub event-keeps : (event : Event) {on : Script} {es : List Event} → Keeps on es → Keeps (send_event event on) (event ∷ es)
-event-keeps event h = sending (λ reply. h)
+pub event_keeps : (event : Event) {on : Script} {es : List Event} → Keeps on es → Keeps (send_event event on) (event ∷ es)
+event_keeps event h = sending (λ reply. h)
 
-pub bits-keeps : (bits : List Bool) {on : Script} {es : List Event} → Keeps on es → Keeps (send_bits bits on) (slots bits ++ es)
+pub bits_keeps : (bits : List Bool) {on : Script} {es : List Event} → Keeps on es → Keeps (send_bits bits on) (slots bits ++ es)
 unfolding send_bits
-bits-keeps [] h = h
-bits-keeps (bit ∷ bits) h = sending (λ reply. bits-keeps bits h)
+bits_keeps [] h = h
+bits_keeps (bit ∷ bits) h = sending (λ reply. bits_keeps bits h)
 
 pub read_keeps : (k : ℕ) {on : ℕ → Script} {es : List Event} → ((v : ℕ) → Keeps (on v) es) → Keeps (read_bits k on) (reading k ++ es)
 unfolding read_bits
@@ -74,33 +74,33 @@ abbrev pub byte_slots : ℕ → List Event
 byte_slots zero = []
 byte_slots (suc k) = reading 8 ++ byte_slots k
 
-pub bytes-keeps : (k : ℕ) {on : List ℕ → Script} {es : List Event} → ((bytes : List ℕ) → Keeps (on bytes) es) → Keeps (read_bytes k on) (byte_slots k ++ es)
+pub bytes_keeps : (k : ℕ) {on : List ℕ → Script} {es : List Event} → ((bytes : List ℕ) → Keeps (on bytes) es) → Keeps (read_bytes k on) (byte_slots k ++ es)
 unfolding read_bytes
-bytes-keeps zero h = h []
-bytes-keeps (suc k) h = read_keeps 8 (λ byte. bytes-keeps k (λ bytes. h (byte ∷ bytes)))
+bytes_keeps zero h = h []
+bytes_keeps (suc k) h = read_keeps 8 (λ byte. bytes_keeps k (λ bytes. h (byte ∷ bytes)))
 
 -- ---- what calls tell that send these events
 
-pub telling-all : (es : List Event) (end : Outcome Next) (k : ℕ) → length es ≤ k
+pub telling_all : (es : List Event) (end : Outcome Next) (k : ℕ) → length es ≤ k
     → telling es end k ≡ map (λ (e : Event). accepted (send e)) es ++ replicate (k - length es) end
 unfolding telling
-telling-all [] end zero le = refl
-telling-all [] end (suc k) le =
+telling_all [] end zero le = refl
+telling_all [] end (suc k) le =
     let q : suc k - 0 ≡ suc (k - 0) = omega arith in
-    rw q (ap (λ (l : List (Outcome Next)). end ∷ l) (telling-all [] end k (omega arith)))
-telling-all (e ∷ es) end zero le = absurd (not-suc-le-zero le)
-telling-all (e ∷ es) end (suc k) le =
+    rw q (ap (λ (l : List (Outcome Next)). end ∷ l) (telling_all [] end k (omega arith)))
+telling_all (e ∷ es) end zero le = absurd (not-suc-le-zero le)
+telling_all (e ∷ es) end (suc k) le =
     let q : suc k - suc (length es) ≡ k - length es = omega arith in
-    rw q (ap (λ (l : List (Outcome Next)). accepted (send e) ∷ l) (telling-all es end k (le_of_suc-le-suc le)))
+    rw q (ap (λ (l : List (Outcome Next)). accepted (send e) ∷ l) (telling_all es end k (le_of_suc-le-suc le)))
 
-pub telling-events : (es : List Event) (values : List ℕ) (k : ℕ) → events_of (telling es (accepted (tells values)) k) ≡ take k es
+pub telling_events : (es : List Event) (values : List ℕ) (k : ℕ) → events_of (telling es (accepted (tells values)) k) ≡ take k es
 unfolding telling events_of
-telling-events [] values zero = refl
-telling-events [] values (suc k) = telling-events [] values k ∙ take-nil k
-telling-events (e ∷ es) values zero = refl
-telling-events (e ∷ es) values (suc k) = ap (λ (l : List Event). e ∷ l) (telling-events es values k)
+telling_events [] values zero = refl
+telling_events [] values (suc k) = telling_events [] values k ∙ take-nil k
+telling_events (e ∷ es) values zero = refl
+telling_events (e ∷ es) values (suc k) = ap (λ (l : List Event). e ∷ l) (telling_events es values k)
 
 -- a script that has stopped
-pub stopped-told : (number : ℕ) (values : List ℕ) (rs : List Bool) → play (stops number values) rs ≡ replicate (length rs) (refused number values)
-stopped-told number values [] = refl
-stopped-told number values (r ∷ rs) = end-repeats (stops number values) refl r rs
+pub stopped_told : (number : ℕ) (values : List ℕ) (rs : List Bool) → play (stops number values) rs ≡ replicate (length rs) (refused number values)
+stopped_told number values [] = refl
+stopped_told number values (r ∷ rs) = end_repeats (stops number values) refl r rs

@@ -141,7 +141,7 @@ module _ {B : Type 0} (react : B → Event → B) (line : B → Event → Bool) 
 -- A master with these calls. If its answers to every list of replies are those of playing a script, then joined to any bus it does what
 -- the script does there. Joined: the replies are good. There are such, as many as one likes: the drawn ones.
 pub record ScriptLaws : Type 1 where
-  pub on-bus : {B S : Type 0} (react : B → Event → B) (line : B → Event → Bool) (call : S → Bool → S) (told : S → Bool → Outcome Next) {s : S} {script : Script}
+  pub on_bus : {B S : Type 0} (react : B → Event → B) (line : B → Event → Bool) (call : S → Bool → S) (told : S → Bool → Outcome Next) {s : S} {script : Script}
       → ((replies : List Bool) → answers call told s replies ≡ play script replies)
       → (b : B) (replies : List Bool) → Good react line out_of b (answers call told s replies) replies
       → answers call told s replies ≡ played_telling react line script b (length replies)

@@ -19,13 +19,13 @@ module _ (t : ℕ → Bool) (n i : ℕ) where
   unfolding first
   first_found lt e = ap (λ k. first t k i) (ahead lt) ∙ simp e
 
-  pub first-goes-on : i < n → t i ≡ false → first t (n - i) i ≡ first t (n - (i + 1)) (i + 1)
+  pub first_goes_on : i < n → t i ≡ false → first t (n - i) i ≡ first t (n - (i + 1)) (i + 1)
   unfolding first
-  first-goes-on lt e = ap (λ k. first t k i) (ahead lt) ∙ simp e
+  first_goes_on lt e = ap (λ k. first t k i) (ahead lt) ∙ simp e
 
-  pub first-over : n ≤ i → first t (n - i) i ≡ Nothing
+  pub first_over : n ≤ i → first t (n - i) i ≡ Nothing
   unfolding first
-  first-over le = let e : n - i ≡ 0 = omega arith in ap (λ k. first t k i) e
+  first_over le = let e : n - i ≡ 0 = omega arith in ap (λ k. first t k i) e
 
 module _ (t : ℕ → Bool) where
   -- x is the first of the numbers from q on at which t holds
@@ -35,10 +35,10 @@ module _ (t : ℕ → Bool) where
     pub high : x < q + k
     pub before : (i : ℕ) → q ≤ i → i < x → t i ≡ false
 
-  pub first-at : (k q x : ℕ) → first t k q ≡ At (record { 0 = x }) → First k q x
+  pub first_at : (k q x : ℕ) → first t k q ≡ At (record { 0 = x }) → First k q x
   unfolding first
-  first-at zero q x e = absurd (let z : ◌≡◌ {A = ℕ} 0 1 = cc in omega arith)
-  first-at (suc k) q x e = go (t q) refl (first-at k (q + 1) x)
+  first_at zero q x e = absurd (let z : ◌≡◌ {A = ℕ} 0 1 = cc in omega arith)
+  first_at (suc k) q x e = go (t q) refl (first_at k (q + 1) x)
     where
       go : (b : Bool) → t q ≡ b → (first t k (q + 1) ≡ At (record { 0 = x }) → First k (q + 1) x) → First (suc k) q x
       go true s ih =
@@ -56,10 +56,10 @@ module _ (t : ℕ → Bool) where
             before = λ i a b. ⊎_elim (λ (z : q ≡ i). ap t (sym z) ∙ s) (λ (z : q < i). f.before i (omega arith) b) (eq-or-lt_of_le a);
           }
 
-  pub first-nothing : (k q : ℕ) → first t k q ≡ Nothing → (i : ℕ) → q ≤ i → i < q + k → t i ≡ false
+  pub first_nothing : (k q : ℕ) → first t k q ≡ Nothing → (i : ℕ) → q ≤ i → i < q + k → t i ≡ false
   unfolding first
-  first-nothing zero q e i le lt = absurd (omega arith)
-  first-nothing (suc k) q e i le lt = go (t q) refl (λ r. first-nothing k (q + 1) r)
+  first_nothing zero q e i le lt = absurd (omega arith)
+  first_nothing (suc k) q e i le lt = go (t q) refl (λ r. first_nothing k (q + 1) r)
     where
       go : (b : Bool) → t q ≡ b → (first t k (q + 1) ≡ Nothing → (i : ℕ) → q + 1 ≤ i → i < q + 1 + k → t i ≡ false) → t i ≡ false
       go true s ih = let r : ◌≡◌ {A = Found} (At (record { 0 = q })) Nothing = rw s at e in absurd (let z : ◌≡◌ {A = ℕ} 0 1 = cc in omega arith)

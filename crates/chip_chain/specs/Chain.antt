@@ -35,8 +35,8 @@ Endless b n p = (k : ℕ) → Inside b n (met b p k)
 
 -- the walk's verdict means what the chain says, from every page of the chip
 pub record WalkLaws (n : ℕ) (img : List ℕ) (p : ℕ) : Type 0 where
-  pub final-means : (f h : ℕ) → (walk_of n img p ≡ final f h) ↔ EndsFinal (redirection_of n img) n p f h
-  pub outside-means : (x : ℕ) → (walk_of n img p ≡ outside x) ↔ EndsOutside (redirection_of n img) n p x
-  pub loop-means : (walk_of n img p ≡ loops) ↔ Endless (redirection_of n img) n p
+  pub final_means : (f h : ℕ) → (walk_of n img p ≡ final f h) ↔ EndsFinal (redirection_of n img) n p f h
+  pub outside_means : (x : ℕ) → (walk_of n img p ≡ outside x) ↔ EndsOutside (redirection_of n img) n p x
+  pub loop_means : (walk_of n img p ≡ loops) ↔ Endless (redirection_of n img) n p
   -- no more hops than pages other than the first
-  pub final-hops : (f h : ℕ) → walk_of n img p ≡ final f h → h < n
+  pub final_hops : (f h : ℕ) → walk_of n img p ≡ final f h → h < n

@@ -51,18 +51,18 @@ pub record Free (n : ℕ) (img : List ℕ) (p : ℕ) : Type 0 where
 
 -- t is free and not the other page, and each free page below it is the other one
 pub record Lowest (n : ℕ) (img : List ℕ) (other t : ℕ) : Type 0 where
-  pub on-chip : t < n
+  pub on_chip : t < n
   pub free : Free n img t
   pub apart : t ≡ other → ⊥
   pub below : (p : ℕ) → p < t → Free n img p → p ≡ other
 
 -- both agree
 pub record FreeLaws (n : ℕ) (img : List ℕ) : Type 0 where
-  pub free-means : (p : ℕ) → is_free n img p ≡ true → Free n img p
-  pub means-free : (p : ℕ) → Free n img p → is_free n img p ≡ true
-  pub found-means : (other t : ℕ) → lowest_free n img other ≡ At (record { 0 = t }) → Lowest n img other t
+  pub free_means : (p : ℕ) → is_free n img p ≡ true → Free n img p
+  pub means_free : (p : ℕ) → Free n img p → is_free n img p ≡ true
+  pub found_means : (other t : ℕ) → lowest_free n img other ≡ At (record { 0 = t }) → Lowest n img other t
   -- the bits and the byte that this speaks of, in plain numbers: the status stands behind the 32n bytes of data
-  pub used-bit : (p : ℕ) → page_bit n UsedPages img p ≡ eqb (get_or img (32 * n + (0x40 + p / 8)) 0 / 2 ^ (p % 8) % 2) 1
-  pub protection-bit : (p : ℕ) → page_bit n DataProtection img p ≡ eqb (get_or img (32 * n + (0x00 + p / 8)) 0 / 2 ^ (p % 8) % 2) 1
-  pub redirection-byte : (p : ℕ) → redirection_of n img p ≡ get_or img (32 * n + (0x100 + p)) 0
-  pub nothing-means : (other : ℕ) → lowest_free n img other ≡ Nothing → (p : ℕ) → p < n → Free n img p → p ≡ other
+  pub used_bit : (p : ℕ) → page_bit n UsedPages img p ≡ eqb (get_or img (32 * n + (0x40 + p / 8)) 0 / 2 ^ (p % 8) % 2) 1
+  pub protection_bit : (p : ℕ) → page_bit n DataProtection img p ≡ eqb (get_or img (32 * n + (0x00 + p / 8)) 0 / 2 ^ (p % 8) % 2) 1
+  pub redirection_byte : (p : ℕ) → redirection_of n img p ≡ get_or img (32 * n + (0x100 + p)) 0
+  pub nothing_means : (other : ℕ) → lowest_free n img other ≡ Nothing → (p : ℕ) → p < n → Free n img p → p ≡ other

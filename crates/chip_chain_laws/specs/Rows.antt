@@ -75,7 +75,7 @@ starred_rows =
     ∷ (crc16 [] gives sends (record { 0 = 0xFF; 1 = 0xFF }))
     ∷ []
 
-pub starred_rows-hold : Hold starred_rows
+pub starred_rows_hold : Hold starred_rows
 unfolding starred_rows walk write_over crc16 redirected on_page_one falling chain holding first_byte walk_of walk_from redirection_of target_byte data_byte programmed
     is_writable bit_of status_writable index_of page_bit is_held first_address crc_bytes
-starred_rows-hold = refl
+starred_rows_hold = refl

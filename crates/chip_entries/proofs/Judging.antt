@@ -14,25 +14,25 @@ module _ (n : ℕ) (s : State) (e : Event) (img : List ℕ) where
   abbrev judged : Outcome Done
   judged = in_order (is_image n img) (chip_in_range n s.stage && true) true
 
-  event-told : event_answer n s e img ≡ following judged (accepted (reply_of s.stage e s.number))
+  event_told : event_answer n s e img ≡ following judged (accepted (reply_of s.stage e s.number))
   unfolding event_answer
-  event-told = go (is_image n img) (chip_in_range n s.stage) (accepted (reply_of s.stage e s.number))
+  event_told = go (is_image n img) (chip_in_range n s.stage) (accepted (reply_of s.stage e s.number))
     where
       go : (a b : Bool) (x : Outcome Bool) → judge a 1 (judge b 2 x) ≡ following (in_order a (b && true) true) x
       go true true x = refl
       go true false x = refl
       go false b x = refl
 
-  told-by : {j : Outcome Done} → j ≡ judged → event_answer n s e img ≡ following j (accepted (reply_of s.stage e s.number))
-  told-by j = event-told ∙ ap (λ (o : Outcome Done). following o (accepted (reply_of s.stage e s.number))) (sym j)
+  told_by : {j : Outcome Done} → j ≡ judged → event_answer n s e img ≡ following j (accepted (reply_of s.stage e s.number))
+  told_by j = event_told ∙ ap (λ (o : Outcome Done). following o (accepted (reply_of s.stage e s.number))) (sym j)
 
-  pub event-refused : {k : ℕ} {vs : List ℕ} → refused k vs ≡ judged
+  pub event_refused : {k : ℕ} {vs : List ℕ} → refused k vs ≡ judged
       → (refused k vs ≡ event_answer n s e img) × ((s ≡ event_state n s e img) × (img ≡ event_image n s e img))
   unfolding event_state event_image
-  event-refused j = (sym (told-by j), (simp (told-by j), simp (told-by j)))
+  event_refused j = (sym (told_by j), (simp (told_by j), simp (told_by j)))
 
-  pub event-accepted : accepted done ≡ judged → (bit : Bool) (next : Stage) (img' : List ℕ) → bit ≡ reply_of s.stage e s.number
+  pub event_accepted : accepted done ≡ judged → (bit : Bool) (next : Stage) (img' : List ℕ) → bit ≡ reply_of s.stage e s.number
       → img' ≡ image_after n s.stage e img → next ≡ stage_after n s.stage e s.number img'
       → (accepted bit ≡ event_answer n s e img) × ((record { stage = next; number = s.number } ≡ event_state n s e img) × (img' ≡ event_image n s e img))
   unfolding event_state event_image
-  event-accepted j bit next img' b i x = (ap accepted b ∙ sym (told-by j), (simp (told-by j, x, i), simp (told-by j, i)))
+  event_accepted j bit next img' b i x = (ap accepted b ∙ sym (told_by j), (simp (told_by j, x, i), simp (told_by j, i)))

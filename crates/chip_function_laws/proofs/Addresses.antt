@@ -10,23 +10,23 @@ use borrow.Author.Tests.{ltb-false}
 use Rattle.base_types.specs.Bits.{bits_of}
 use Rattle.base_types.specs.declared.address.Space.{Space}
 use Rattle.base_types.specs.declared.address.Space.TheVariants.{Data, Status}
-use Rattle.base_types.proofs.Values.{bits-tell}
+use Rattle.base_types.proofs.Values.{bits_tell}
 use Rattle.base_crc.specs.Crc.{crc_bytes, crc16_byte, crc16_from, crc16_of, crc16_loaded, crc16_word}
 use Rattle.base_crc.specs.Polynomial.{crc16_polynomial}
-use Rattle.base_crc.proofs.Distinct.{registers-tell, bytes-tell}
+use Rattle.base_crc.proofs.Distinct.{registers_tell, bytes_tell}
 use Rattle.base_crc.proofs.Runs.{bytes_lt}
 use Rattle.chip_stage.specs.Limits.{limit_of, address_bits, kept_address}
 use Rattle.chip_function_laws.specs.Streams.{crc_of, header}
 use Rattle.chip_function_laws.specs.Addresses.{AddressLaws}
 
 -- the CRC-16 of bytes, as it is sent, tells their registers apart
-words-tell : (r s : ℕ) → r < 65536 → s < 65536 → bits_of 16 (crc16_word r) ≡ bits_of 16 (crc16_word s) → r ≡ s
-words-tell r s hr hs e =
-    let w : crc16_word r ≡ crc16_word s = bits-tell 16 (crc16_word r) (crc16_word s) (omega arith) (omega arith) e in
+words_tell : (r s : ℕ) → r < 65536 → s < 65536 → bits_of 16 (crc16_word r) ≡ bits_of 16 (crc16_word s) → r ≡ s
+words_tell r s hr hs e =
+    let w : crc16_word r ≡ crc16_word s = bits_tell 16 (crc16_word r) (crc16_word s) (omega arith) (omega arith) e in
     omega arith
 
-crc-lt : (r : ℕ) (bytes : List ℕ) → r < 65536 → crc16_from r bytes < 65536
-crc-lt r bytes h = bytes_lt crc16_polynomial 16 (lit< tt) bytes r h
+crc_lt : (r : ℕ) (bytes : List ℕ) → r < 65536 → crc16_from r bytes < 65536
+crc_lt r bytes h = bytes_lt crc16_polynomial 16 (lit< tt) bytes r h
 
 module _ (n : ℕ) where
   -- eleven bits, or thirteen
@@ -56,9 +56,9 @@ module _ (n : ℕ) where
   below a = either (λ k. a % 2 ^ k < 2 ^ k) (omega arith) (omega arith)
 
   -- both memories have addresses of so many bits only
-  limit-kept : n ≤ 256 → (space : Space) → limit_of n space ≤ 2 ^ address_bits n
+  limit_kept : n ≤ 256 → (space : Space) → limit_of n space ≤ 2 ^ address_bits n
   unfolding address_bits limit_of
-  limit-kept le space = go (ltb 64 n) refl space
+  limit_kept le space = go (ltb 64 n) refl space
     where
       go : (t : Bool) → ltb 64 n ≡ t → (space : Space) → limit_of n space ≤ 2 ^ cond t 13 11
       go true e Data = omega arith
@@ -75,26 +75,26 @@ module _ (n : ℕ) where
       let k = kept_address n a in
       let before = crc16_byte (crc16_byte 0 command) (a % 256) in
       let same : crc16_of (header command k ++ bytes) ≡ crc16_of (header command a ++ bytes) =
-      words-tell _ _ (crc-lt 0 (header command k ++ bytes) (lit< tt)) (crc-lt 0 (header command a ++ bytes) (lit< tt)) e in
+      words_tell _ _ (crc_lt 0 (header command k ++ bytes) (lit< tt)) (crc_lt 0 (header command a ++ bytes) (lit< tt)) e in
       let whole : crc16_from (crc16_byte before (k / 256)) bytes ≡ crc16_from (crc16_byte before (a / 256)) bytes =
       ap (λ (x : ℕ). crc16_from (crc16_byte (crc16_byte (crc16_byte 0 command) x) (k / 256)) bytes) (sym (kept_low a)) ∙ same in
       let registers : crc16_byte before (k / 256) ≡ crc16_byte before (a / 256) =
-      registers-tell crc16_polynomial 15 (lit≤ tt) (lit< tt) bytes _ _
-      (crc-lt 0 (command ∷ a % 256 ∷ k / 256 ∷ []) (lit< tt)) (crc-lt 0 (command ∷ a % 256 ∷ a / 256 ∷ []) (lit< tt)) whole in
+      registers_tell crc16_polynomial 15 (lit≤ tt) (lit< tt) bytes _ _
+      (crc_lt 0 (command ∷ a % 256 ∷ k / 256 ∷ []) (lit< tt)) (crc_lt 0 (command ∷ a % 256 ∷ a / 256 ∷ []) (lit< tt)) whole in
       let high : k / 256 ≡ a / 256 =
-      bytes-tell crc16_polynomial 15 (lit≤ tt) (lit< tt) before (k / 256) (a / 256) (lit≤ tt) (omega (arith, kept_word a)) (omega arith) registers in
+      bytes_tell crc16_polynomial 15 (lit≤ tt) (lit< tt) before (k / 256) (a / 256) (lit≤ tt) (omega (arith, kept_word a)) (omega arith) registers in
       omega (arith, high, kept_low a, below a)
 
   loaded : (x y byte : ℕ) → x < 65536 → y < 65536
       → bits_of 16 (crc16_word (crc16_loaded x (byte ∷ []))) ≡ bits_of 16 (crc16_word (crc16_loaded y (byte ∷ []))) → x ≡ y
   loaded x y byte hx hy e =
-      registers-tell crc16_polynomial 15 (lit≤ tt) (lit< tt) (byte ∷ []) x y hx hy
-      (words-tell _ _ (crc-lt x (byte ∷ []) hx) (crc-lt y (byte ∷ []) hy) e)
+      registers_tell crc16_polynomial 15 (lit≤ tt) (lit< tt) (byte ∷ []) x y hx hy
+      (words_tell _ _ (crc_lt x (byte ∷ []) hx) (crc_lt y (byte ∷ []) hy) e)
 
-pub address-laws : (n : ℕ) → n ≤ 256 → AddressLaws n
-address-laws n le =
+pub address_laws : (n : ℕ) → n ≤ 256 → AddressLaws n
+address_laws n le =
     record {
-      own = λ space a lt. low n a (lt_of_lt_of_le lt (limit-kept n le space));
+      own = λ space a lt. low n a (lt_of_lt_of_le lt (limit_kept n le space));
       low = low n;
       agrees = λ command a bytes lt. ap (λ (x : ℕ). crc_of (header command x ++ bytes)) (low n a lt);
       differs = differs n;

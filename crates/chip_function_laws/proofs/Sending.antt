@@ -30,13 +30,13 @@ module _ (n : ℕ) (img : List ℕ) where
       let e : suc (suc k) - 1 ≡ suc k = omega arith in
       next {m = Send o (suc (suc k)) v crc} {s = Send o (suc k) (v / 2) crc} refl (λ bit. simp (lt-ltb 1 (suc (suc k)) (omega arith), e)) (bits_out k o (v / 2) crc)
 
-  pub byte-out : (o : Outgoing) (v crc : ℕ) → Sends n img (sending_byte o v crc) (bits_of 8 v) (sent n o (crc16_byte crc v) img)
+  pub byte_out : (o : Outgoing) (v crc : ℕ) → Sends n img (sending_byte o v crc) (bits_of 8 v) (sent n o (crc16_byte crc v) img)
   unfolding sending_byte
-  byte-out o v crc = bits_out 7 o v (crc16_byte crc v)
+  byte_out o v crc = bits_out 7 o v (crc16_byte crc v)
 
-  pub crc-out : (o : Outgoing) (crc : ℕ) → Sends n img (sending_crc o crc) (bits_of 16 (crc16_word crc)) (sent n o crc img)
+  pub crc_out : (o : Outgoing) (crc : ℕ) → Sends n img (sending_crc o crc) (bits_of 16 (crc16_word crc)) (sent n o crc img)
   unfolding sending_crc
-  crc-out o crc = bits_out 15 o (crc16_word crc) crc
+  crc_out o crc = bits_out 15 o (crc16_word crc) crc
 
   -- A block: at address a the stage is at a crc and the byte is byte a; while more, the next address follows, and else the end.
   module _ (at : ℕ → ℕ → MemoryStage) (byte : ℕ → ℕ) (more : ℕ → Bool) (end : ℕ → ℕ → MemoryStage)

@@ -38,32 +38,32 @@ part_of img p start end s e = go (dec_lt (32 * p) (length img))
         let far : length img ≤ 32 * p = omega arith in
         ap (take (end - start)) (drop_of_length-le img past) ∙ take-nil (end - start) ∙ sym (ap (take 32) (drop_of_length-le img far))
 
-pub page-length : (n : ℕ) (img : List ℕ) (p : ℕ) → length img ≡ image_size n → p < n → length (page_bytes img p) ≡ 32
+pub page_length : (n : ℕ) (img : List ℕ) (p : ℕ) → length img ≡ image_size n → p < n → length (page_bytes img p) ≡ 32
 unfolding page_bytes
-page-length n img p e lt = simp (length-take, length-drop) (omega arith)
+page_length n img p e lt = simp (length-take, length-drop) (omega arith)
 
 -- ---- the blank test
 
-pub blank-next : (l : List ℕ) (i : ℕ) → i < length l → get_or l i 0 ≡ 255 → is_blank (drop (i + 1) l) ≡ is_blank (drop i l)
+pub blank_next : (l : List ℕ) (i : ℕ) → i < length l → get_or l i 0 ≡ 255 → is_blank (drop (i + 1) l) ≡ is_blank (drop i l)
 unfolding is_blank
-blank-next l i lt e = rw (add-one, drop-cons l i 0, eq-eqb _ _ e)
+blank_next l i lt e = rw (add-one, drop-cons l i 0, eq-eqb _ _ e)
 
-pub blank-not : (l : List ℕ) (i : ℕ) → i < length l → (get_or l i 0 ≡ 255 → ⊥) → false ≡ is_blank (drop i l)
+pub blank_not : (l : List ℕ) (i : ℕ) → i < length l → (get_or l i 0 ≡ 255 → ⊥) → false ≡ is_blank (drop i l)
 unfolding is_blank
-blank-not l i lt d = rw (drop-cons l i 0, ne_eqb _ _ d)
+blank_not l i lt d = rw (drop-cons l i 0, ne_eqb _ _ d)
 
-pub blank-end : (l : List ℕ) (i : ℕ) → length l ≤ i → true ≡ is_blank (drop i l)
+pub blank_end : (l : List ℕ) (i : ℕ) → length l ≤ i → true ≡ is_blank (drop i l)
 unfolding is_blank
-blank-end l i le = rw drop_of_length-le
+blank_end l i le = rw drop_of_length-le
 
 -- ---- the copy
 
 -- a buffer keeps its length
-pub copied-length : (l old : List ℕ) → length (copied l old) ≡ length old
+pub copied_length : (l old : List ℕ) → length (copied l old) ≡ length old
 unfolding copied
-copied-length [] old = refl
-copied-length (b ∷ l) [] = refl
-copied-length (b ∷ l) (o ∷ old) = ap suc (copied-length l old)
+copied_length [] old = refl
+copied_length (b ∷ l) [] = refl
+copied_length (b ∷ l) (o ∷ old) = ap suc (copied_length l old)
 
 pub copied_none : (l old : List ℕ) → old ≡ copied (take 0 l) old
 unfolding copied
@@ -86,9 +86,9 @@ copied_all (b ∷ l) (o ∷ old) zero h = absurd (omega arith)
 copied_all (b ∷ l) (o ∷ old) (suc e) h = ap (λ (x : List ℕ). b ∷ x) (copied_all l old e (omega arith))
 
 -- over a buffer of the same length a copy is the page
-pub copied-same : (l old : List ℕ) → length l ≡ length old → copied l old ≡ l
+pub copied_same : (l old : List ℕ) → length l ≡ length old → copied l old ≡ l
 unfolding copied
-copied-same [] [] h = refl
-copied-same [] (o ∷ old) h = absurd (omega arith)
-copied-same (b ∷ l) [] h = absurd (omega arith)
-copied-same (b ∷ l) (o ∷ old) h = ap (λ (x : List ℕ). b ∷ x) (copied-same l old (omega arith))
+copied_same [] [] h = refl
+copied_same [] (o ∷ old) h = absurd (omega arith)
+copied_same (b ∷ l) [] h = absurd (omega arith)
+copied_same (b ∷ l) (o ∷ old) h = ap (λ (x : List ℕ). b ∷ x) (copied_same l old (omega arith))

@@ -12,23 +12,23 @@ use Rattle.chip_memory.specs.declared.layout.Field.{Field}
 use Rattle.chip_memory.specs.declared.layout.Field.TheVariants.{DataProtection, RedirectionProtection, UsedPages}
 use Rattle.chip_memory.specs.Layout.{first_address, image_size, is_image, is_page}
 
-pub image-length : (n : ℕ) (img : List ℕ) → is_image n img ≡ true → length img ≡ image_size n
+pub image_length : (n : ℕ) (img : List ℕ) → is_image n img ≡ true → length img ≡ image_size n
 unfolding is_image
-image-length n img e = eqb-true _ _ e
+image_length n img e = eqb-true _ _ e
 
-pub page-below : (n p : ℕ) → is_page n p ≡ true → p < n
+pub page_below : (n p : ℕ) → is_page n p ≡ true → p < n
 unfolding is_page
-page-below n p e = ltb-true _ _ e
+page_below n p e = ltb-true _ _ e
 
-pub first-low : (f : Field) → first_address f ≤ 64
+pub first_low : (f : Field) → first_address f ≤ 64
 unfolding first_address
-first-low DataProtection = omega arith
-first-low RedirectionProtection = omega arith
-first-low UsedPages = omega arith
+first_low DataProtection = omega arith
+first_low RedirectionProtection = omega arith
+first_low UsedPages = omega arith
 
 -- at most the last page, or below the page count
-pub leb-ltb : (p last : ℕ) → leb p last ≡ ltb p (last + 1)
-leb-ltb p last = go (dec_lt p (last + 1))
+pub leb_ltb : (p last : ℕ) → leb p last ≡ ltb p (last + 1)
+leb_ltb p last = go (dec_lt p (last + 1))
   where
     go : Dec (p < last + 1) → leb p last ≡ ltb p (last + 1)
     go (yes lt) = le-leb p last (omega arith) ∙ sym (lt-ltb p (last + 1) lt)

@@ -64,5 +64,5 @@ is_held n a =
     || is_within (first_address UsedPages) (field_size n) a))
 
 -- document 01's figures: 2,048 bytes of data and 320 of status, 000h to 13Fh
-pub ds2505-sizes : (data_size 64 ∷ status_size 64 ∷ image_size 64 ∷ field_size 64 ∷ []) ≡ (2048 ∷ 0x140 ∷ 2368 ∷ 8 ∷ [])
-ds2505-sizes = refl
+pub ds2505_sizes : (data_size 64 ∷ status_size 64 ∷ image_size 64 ∷ field_size 64 ∷ []) ≡ (2048 ∷ 0x140 ∷ 2368 ∷ 8 ∷ [])
+ds2505_sizes = refl

@@ -22,36 +22,36 @@ outcome_in_range Selected = true
 outcome_in_range Deselected = true
 
 -- a choice of two outcomes: the first has to be within the ranges only where the test says so
-choice-kept : (t : Bool) (o p : RomOutcome) → (t ≡ true → outcome_in_range o ≡ true) → outcome_in_range p ≡ true → outcome_in_range (cond t o p) ≡ true
-choice-kept true o p x y = x refl
-choice-kept false o p x y = y
+choice_kept : (t : Bool) (o p : RomOutcome) → (t ≡ true → outcome_in_range o ≡ true) → outcome_in_range p ≡ true → outcome_in_range (cond t o p) ≡ true
+choice_kept true o p x y = x refl
+choice_kept false o p x y = y
 
 -- one more stays below one more
-stays-below : (i n : ℕ) → ltb i n ≡ true → ltb (i + 1) (suc n) ≡ true
-stays-below i n t = lt-ltb (i + 1) (suc n) (omega (arith, ltb-true i n t))
+stays_below : (i n : ℕ) → ltb i n ≡ true → ltb (i + 1) (suc n) ≡ true
+stays_below i n t = lt-ltb (i + 1) (suc n) (omega (arith, ltb-true i n t))
 
-command-kept : (byte : ℕ) → outcome_in_range (rom_command byte) ≡ true
+command_kept : (byte : ℕ) → outcome_in_range (rom_command byte) ≡ true
 unfolding rom_command rom_in_range
-command-kept byte =
-    choice-kept (eqb byte 0x33) _ _ (λ t. refl)
-    (choice-kept (eqb byte 0x55) _ _ (λ t. refl) (choice-kept (eqb byte 0xF0) _ _ (λ t. refl) (choice-kept (eqb byte 0xCC) _ _ (λ t. refl) refl)))
+command_kept byte =
+    choice_kept (eqb byte 0x33) _ _ (λ t. refl)
+    (choice_kept (eqb byte 0x55) _ _ (λ t. refl) (choice_kept (eqb byte 0xF0) _ _ (λ t. refl) (choice_kept (eqb byte 0xCC) _ _ (λ t. refl) refl)))
 
-next-kept : (step : RomStep) (i : ℕ) → outcome_in_range (next_of step i) ≡ true
+next_kept : (step : RomStep) (i : ℕ) → outcome_in_range (next_of step i) ≡ true
 unfolding next_of rom_in_range
-next-kept step i = choice-kept (ltb i 63) _ _ (stays-below i 63) refl
+next_kept step i = choice_kept (ltb i 63) _ _ (stays_below i 63) refl
 
-taken-kept : (agrees : Bool) (step : RomStep) (i : ℕ) → outcome_in_range (taken_of agrees step i) ≡ true
+taken_kept : (agrees : Bool) (step : RomStep) (i : ℕ) → outcome_in_range (taken_of agrees step i) ≡ true
 unfolding taken_of
-taken-kept agrees step i = choice-kept agrees _ _ (λ t. next-kept step i) refl
+taken_kept agrees step i = choice_kept agrees _ _ (λ t. next_kept step i) refl
 
 slot_kept : (r : RomStage) (m : Bool) (number : List ℕ) → rom_in_range r ≡ true → outcome_in_range (rom_slot r m number) ≡ true
 unfolding rom_slot rom_command_bit number_slot rom_in_range
-slot_kept (Command k v) m number h = choice-kept (ltb k 7) _ _ (stays-below k 7) (command-kept (shift_in v m))
-slot_kept (Number Read i) m number h = next-kept Read i
-slot_kept (Number Match i) m number h = taken-kept (same m (number_bit number i)) Match i
+slot_kept (Command k v) m number h = choice_kept (ltb k 7) _ _ (stays_below k 7) (command_kept (shift_in v m))
+slot_kept (Number Read i) m number h = next_kept Read i
+slot_kept (Number Match i) m number h = taken_kept (same m (number_bit number i)) Match i
 slot_kept (Number SearchBit i) m number h = h
 slot_kept (Number SearchComplement i) m number h = h
-slot_kept (Number SearchTake i) m number h = taken-kept (same m (number_bit number i)) SearchBit i
+slot_kept (Number SearchTake i) m number h = taken_kept (same m (number_bit number i)) SearchBit i
 
 pub kept : (r s : RomStage) (m : Bool) (number : List ℕ) → rom_in_range r ≡ true → rom_slot r m number ≡ Stays s → rom_in_range s ≡ true
 kept r s m number h e = sym (ap outcome_in_range e) ∙ slot_kept r m number h

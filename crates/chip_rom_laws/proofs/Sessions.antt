@@ -3,11 +3,11 @@ use Rattle.chip_rom_laws.specs.Rom.{RomStageLaws}
 use Rattle.chip_rom_laws.proofs.Commands.{command}
 use Rattle.chip_rom_laws.proofs.Numbers.{read, matched, mismatched}
 use Rattle.chip_rom_laws.proofs.Searches.{searched, lost}
-use Rattle.chip_rom_laws.proofs.NumberBits.{number-bits}
+use Rattle.chip_rom_laws.proofs.NumberBits.{number_bits_law}
 use Rattle.chip_rom_laws.proofs.Kept.{kept}
 
-pub rom-laws : RomStageLaws
-rom-laws =
+pub rom_laws : RomStageLaws
+rom_laws =
     record {
       command = command;
       read = read;
@@ -15,6 +15,6 @@ rom-laws =
       mismatched = mismatched;
       searched = searched;
       lost = lost;
-      number-bits = number-bits;
+      number_bits_law = number_bits_law;
       kept = kept;
     }

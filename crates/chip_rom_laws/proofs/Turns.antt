@@ -9,13 +9,13 @@ use Rattle.chip_rom.specs.declared.RomStage.TheVariants.{Number}
 use Rattle.chip_rom.specs.declared.RomOutcome.TheVariants.{Stays, Selected, Deselected}
 use Rattle.chip_rom.specs.Rom.{next_of, taken_of}
 
-pub next-on : (step : RomStep) (i : ℕ) → i < 63 → next_of step i ≡ Stays (Number step (i + 1))
+pub next_on : (step : RomStep) (i : ℕ) → i < 63 → next_of step i ≡ Stays (Number step (i + 1))
 unfolding next_of
-next-on step i h = simp (lt-ltb _ _ h)
+next_on step i h = simp (lt-ltb _ _ h)
 
-pub next-end : (step : RomStep) (i : ℕ) → 63 ≤ i → next_of step i ≡ Selected
+pub next_end : (step : RomStep) (i : ℕ) → 63 ≤ i → next_of step i ≡ Selected
 unfolding next_of
-next-end step i h = simp (le-ltb _ _ h)
+next_end step i h = simp (le-ltb _ _ h)
 
 -- the master's bit is the number's, bit b ..
 agrees : (b : Bool) (step : RomStep) (i : ℕ) → taken_of (same b b) step i ≡ next_of step i
@@ -24,10 +24,10 @@ agrees true step i = refl
 agrees false step i = refl
 
 pub agrees_on : (b : Bool) (step : RomStep) (i : ℕ) → i < 63 → taken_of (same b b) step i ≡ Stays (Number step (i + 1))
-agrees_on b step i h = agrees b step i ∙ next-on step i h
+agrees_on b step i h = agrees b step i ∙ next_on step i h
 
-pub agrees-end : (b : Bool) (step : RomStep) (i : ℕ) → 63 ≤ i → taken_of (same b b) step i ≡ Selected
-agrees-end b step i h = agrees b step i ∙ next-end step i h
+pub agrees_end : (b : Bool) (step : RomStep) (i : ℕ) → 63 ≤ i → taken_of (same b b) step i ≡ Selected
+agrees_end b step i h = agrees b step i ∙ next_end step i h
 
 -- .. or it is not
 pub disagrees : (b : Bool) (step : RomStep) (i : ℕ) → taken_of (same (not b) b) step i ≡ Deselected

@@ -52,6 +52,6 @@ pub record RomStageLaws : Type 0 where
   pub lost : (number : List ℕ) (k : ℕ) (asks : List Ask) (a : Ask) → k < 64 → length asks ≡ k
       → Roms number (Number SearchBit 0) (search_bits number 0 asks ++ (a.first ∷ a.second ∷ not (number_bit number k) ∷ [])) (search_sent number 0 (k + 1)) Deselected
   -- the number's bits are those of its eight bytes, least significant bit first
-  pub number-bits : (number : List ℕ) → length number ≡ 8 → number_bits number 0 64 ≡ bits_of_bytes number
+  pub number_bits_law : (number : List ℕ) → length number ≡ 8 → number_bits number 0 64 ≡ bits_of_bytes number
   -- a slot keeps a stage within its ranges
   pub kept : (r s : RomStage) (m : Bool) (number : List ℕ) → rom_in_range r ≡ true → rom_slot r m number ≡ Stays s → rom_in_range s ≡ true

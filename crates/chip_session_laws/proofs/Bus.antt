@@ -27,5 +27,5 @@ module _ (n : ℕ) where
   run_is [] c = refl
   run_is (e ∷ es) c = run_is es (next n c e)
 
-  pub bus-hears : {c d : Chip} {es : List Event} {rs : List Bool} → Reaches n c es rs d → Hears (next n) (line_at n) c es rs d
-  bus-hears {c} {d} {es} {rs} g = record { path = run_is es c ∙ g.there; replies = lines_are es rs c g.told }
+  pub bus_hears : {c d : Chip} {es : List Event} {rs : List Bool} → Reaches n c es rs d → Hears (next n) (line_at n) c es rs d
+  bus_hears {c} {d} {es} {rs} g = record { path = run_is es c ∙ g.there; replies = lines_are es rs c g.told }

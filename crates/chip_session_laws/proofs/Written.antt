@@ -15,41 +15,41 @@ use Rattle.base_types.specs.declared.write_mode.WriteMode.TheVariants.{Ordinary,
 use Rattle.base_types.specs.WriteMode.{write_command}
 use Rattle.base_crc.specs.Crc.{crc16_of}
 use Rattle.chip_memory.specs.Write.{programmed}
-use Rattle.chip_memory.proofs.Gaps.{programmed-length}
+use Rattle.chip_memory.proofs.Gaps.{programmed_length}
 use Rattle.chip_stage.specs.Limits.{limit_of, target_at}
-use Rattle.chip_stage.proofs.Addresses.{limit-fits}
+use Rattle.chip_stage.proofs.Addresses.{limit_fits}
 use Rattle.chip_function_laws.specs.Streams.{header}
 use Rattle.chip_function_laws.specs.Writes.{written_from}
-use Rattle.chip_function_laws.proofs.Addresses.{address-laws}
+use Rattle.chip_function_laws.proofs.Addresses.{address_laws}
 use Rattle.chip_entries.specs.Run.{Chip, run}
 use Rattle.chip_session_laws.specs.Session.{Ready, ◌at◌, ◌holding◌, Reaches, Selection, WriteCycle, cycle_bytes, cycle_lines, byte_of, before_byte}
-use Rattle.chip_session_laws.specs.Table.{address_end, place_of, Writable, data-open, redirection-open, data-field, redirection-field, used-field}
-use Rattle.chip_session_laws.specs.Table.{Unwritable, data-closed, redirection-closed, in-gap}
+use Rattle.chip_session_laws.specs.Table.{address_end, place_of, Writable, data_open, redirection_open, data_field, redirection_field, used_field}
+use Rattle.chip_session_laws.specs.Table.{Unwritable, data_closed, redirection_closed, in_gap}
 use Rattle.chip_session_laws.specs.Written.{Written, session, Writes, WrittenLaws}
-use Rattle.chip_session_laws.proofs.Places.{elsewhere, written-length, later-kept, one_place}
-use Rattle.chip_session_laws.proofs.Table.{rule, elsewhere-one, limit_is}
-use Rattle.chip_session_laws.proofs.Writes.{cycles-written}
+use Rattle.chip_session_laws.proofs.Places.{elsewhere, written_length, later_kept, one_place}
+use Rattle.chip_session_laws.proofs.Table.{rule, elsewhere_one, limit_is}
+use Rattle.chip_session_laws.proofs.Writes.{cycles_written}
 
-cycles-length : {mode : WriteMode} (cycles : List (WriteCycle mode)) → length (cycle_bytes cycles) ≡ length cycles
-cycles-length [] = refl
-cycles-length (t ∷ ts) = ap suc (cycles-length ts)
+cycles_length : {mode : WriteMode} (cycles : List (WriteCycle mode)) → length (cycle_bytes cycles) ≡ length cycles
+cycles_length [] = refl
+cycles_length (t ∷ ts) = ap suc (cycles_length ts)
 
 module _ (n : ℕ) where
   -- ---- the bits that guard an address are not written from there on
 
-  open-before : (bytes img : List ℕ) {space : Space} {a : ℕ} → a + length bytes ≤ address_end n space → Writable n (written_from n img space a bytes) space a → Writable n img space a
-  open-before bytes img le (data-open {a = a} e) = data-open (rw (elsewhere n Data bytes img a (32 * n + (0x000 + a / 32 / 8)) (λ i lt z. omega arith)) at e)
-  open-before bytes img le (redirection-open {a = a} p lp z e) =
-      redirection-open p lp z (rw (elsewhere n Status bytes img a (32 * n + (0x020 + p / 8)) (λ i lt y. omega arith)) at e)
-  open-before bytes img le (data-field h) = data-field h
-  open-before bytes img le (redirection-field ge h) = redirection-field ge h
-  open-before bytes img le (used-field ge h) = used-field ge h
+  open_before : (bytes img : List ℕ) {space : Space} {a : ℕ} → a + length bytes ≤ address_end n space → Writable n (written_from n img space a bytes) space a → Writable n img space a
+  open_before bytes img le (data_open {a = a} e) = data_open (rw (elsewhere n Data bytes img a (32 * n + (0x000 + a / 32 / 8)) (λ i lt z. omega arith)) at e)
+  open_before bytes img le (redirection_open {a = a} p lp z e) =
+      redirection_open p lp z (rw (elsewhere n Status bytes img a (32 * n + (0x020 + p / 8)) (λ i lt y. omega arith)) at e)
+  open_before bytes img le (data_field h) = data_field h
+  open_before bytes img le (redirection_field ge h) = redirection_field ge h
+  open_before bytes img le (used_field ge h) = used_field ge h
 
-  closed-before : (bytes img : List ℕ) {space : Space} {a : ℕ} → a + length bytes ≤ address_end n space → Unwritable n (written_from n img space a bytes) space a → Unwritable n img space a
-  closed-before bytes img le (data-closed {a = a} e) = data-closed (rw (elsewhere n Data bytes img a (32 * n + (0x000 + a / 32 / 8)) (λ i lt z. omega arith)) at e)
-  closed-before bytes img le (redirection-closed {a = a} p lp z e) =
-      redirection-closed p lp z (rw (elsewhere n Status bytes img a (32 * n + (0x020 + p / 8)) (λ i lt y. omega arith)) at e)
-  closed-before bytes img le (in-gap g) = in-gap g
+  closed_before : (bytes img : List ℕ) {space : Space} {a : ℕ} → a + length bytes ≤ address_end n space → Unwritable n (written_from n img space a bytes) space a → Unwritable n img space a
+  closed_before bytes img le (data_closed {a = a} e) = data_closed (rw (elsewhere n Data bytes img a (32 * n + (0x000 + a / 32 / 8)) (λ i lt z. omega arith)) at e)
+  closed_before bytes img le (redirection_closed {a = a} p lp z e) =
+      redirection_closed p lp z (rw (elsewhere n Status bytes img a (32 * n + (0x020 + p / 8)) (λ i lt y. omega arith)) at e)
+  closed_before bytes img le (in_gap g) = in_gap g
 
   -- ---- each byte
 
@@ -70,25 +70,25 @@ module _ (n : ℕ) where
     each (b ∷ bs) img a l le zero lt =
         let mid = programmed n img (target_at space a) b in
         let own = rule n fits img space a b l (omega arith) in
-        let kept = later-kept n space bs mid a in
+        let kept = later_kept n space bs mid a in
         rw (add-zero a) (
-          (λ w. kept ∙ (own.written (open-before (b ∷ bs) img le w)).there),
-          (λ u. kept ∙ ap (λ (x : List ℕ). get_or x (there a) 0) (own.left (closed-before (b ∷ bs) img le u))),
+          (λ w. kept ∙ (own.written (open_before (b ∷ bs) img le w)).there),
+          (λ u. kept ∙ ap (λ (x : List ℕ). get_or x (there a) 0) (own.left (closed_before (b ∷ bs) img le u))),
         )
     each (b ∷ bs) img a l le (suc i) lt =
         let up : a + suc i ≡ a + 1 + i = omega arith in
-        let later = each bs (programmed n img (target_at space a) b) (a + 1) (programmed-length n img (target_at space a) b ∙ l) (omega arith) i (omega arith) in
-        let kept = elsewhere-one n space img a b (there (a + 1 + i)) (λ e. let same = one_place n space (a + 1 + i) a e in omega arith) in
+        let later = each bs (programmed n img (target_at space a) b) (a + 1) (programmed_length n img (target_at space a) b ∙ l) (omega arith) i (omega arith) in
+        let kept = elsewhere_one n space img a b (there (a + 1 + i)) (λ e. let same = one_place n space (a + 1 + i) a e in omega arith) in
         rw up ((λ w. later.0 w ∙ ap (λ x. bit_and x (get_or bs i 0)) kept), (λ u. later.1 u ∙ kept))
 
-    is-image : (bytes img : List ℕ) (a : ℕ) → length img ≡ 32 * n + (0x100 + n) → a + length bytes ≤ address_end n space
+    is_image_lem : (bytes img : List ℕ) (a : ℕ) → length img ≡ 32 * n + (0x100 + n) → a + length bytes ≤ address_end n space
         → Written n space img (written_from n img space a bytes) a bytes
-    is-image bytes img a l le =
+    is_image_lem bytes img a l le =
         record {
           written = λ i lt. (each bytes img a l le i lt).0;
           left = λ i lt. (each bytes img a l le i lt).1;
           elsewhere = elsewhere n space bytes img a;
-          as_long = written-length n space bytes img a;
+          as_long = written_length n space bytes img a;
         }
 
   -- ---- the four commands
@@ -104,8 +104,8 @@ module _ (n : ℕ) where
           ++ cycle_lines (byte_of n (written_from n c.image space a (cycle_bytes cycles)) space) a (crc16_of (header (write_command mode space) a)) cycles))
           ((c at before_byte n mode space (a + length cycles)) holding written_from n c.image space a (cycle_bytes cycles))
       goes =
-          let own = (address-laws n fits).own space a (omega (arith, room)) in
-          rw own at (cycles-written n whole c mode space a cycles ok sel (omega (arith, limit-fits n space fits, room)) (rw own room) some)
+          let own = (address_laws n fits).own space a (omega (arith, room)) in
+          rw own at (cycles_written n whole c mode space a cycles ok sel (omega (arith, limit_fits n space fits, room)) (rw own room) some)
 
       leaves : (run n c (session ms (write_command mode space) a cycles)).image ≡ written_from n c.image space a (cycle_bytes cycles)
       leaves = ap (λ (d : Chip). d.image) goes.there
@@ -115,15 +115,15 @@ module _ (n : ℕ) where
         record {
           image = λ c {ms} {ls} a cycles ok sel some le.
               rw (leaves c a cycles ok sel some le)
-              (is-image fits space (cycle_bytes cycles) c.image a ok.sized (rw (cycles-length cycles) le));
+              (is_image_lem fits space (cycle_bytes cycles) c.image a ok.sized (rw (cycles_length cycles) le));
           told = λ c {ms} {ls} a cycles ok sel some le. rw (leaves c a cycles ok sel some le) (goes c a cycles ok sel some le).told;
         }
 
-  pub written-laws : n % 8 ≡ 0 → n ≤ 256 → WrittenLaws n
-  written-laws whole fits =
+  pub written_laws : n % 8 ≡ 0 → n ≤ 256 → WrittenLaws n
+  written_laws whole fits =
       record {
         memory = writes whole fits Ordinary Data;
         status = writes whole fits Ordinary Status;
-        quick-memory = writes whole fits Quick Data;
-        quick-status = writes whole fits Quick Status;
+        quick_memory = writes whole fits Quick Data;
+        quick_status = writes whole fits Quick Status;
       }

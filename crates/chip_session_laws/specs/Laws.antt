@@ -60,23 +60,23 @@ is_reset PowerLoss = false
 
 pub record StateLaws (n : ℕ) : Type 0 where
   -- a chip at power-up, with an image of the right length and a number of eight bytes, is within its ranges; an event keeps it there
-  pub power-up : (number img : List ℕ) → length img ≡ image_size n → length number ≡ 8 → Ready n (record { state = power_up number; image = img })
+  pub power_up_law : (number img : List ℕ) → length img ≡ image_size n → length number ≡ 8 → Ready n (record { state = power_up number; image = img })
   pub keeps : (c : Chip) (e : Event) → Ready n c → Ready n (next n c e)
   -- a pulse on a chip that is not armed draws 1 and changes neither state nor image
-  pub idle-pulse : (c : Chip) → Ready n c → is_armed c.state.stage ≡ false → Reaches n c (pulse ∷ []) (true ∷ []) c
+  pub idle_pulse : (c : Chip) → Ready n c → is_armed c.state.stage ≡ false → Reaches n c (pulse ∷ []) (true ∷ []) c
   -- no event but a pulse on an armed chip changes the image, and none the number, whatever the state and the image
-  pub image-kept : (c : Chip) (e : Event) → (is_pulse e && is_armed c.state.stage) ≡ false → (next n c e).image ≡ c.image
-  pub number-kept : (c : Chip) (e : Event) → (next n c e).state.number ≡ c.state.number
+  pub image_kept : (c : Chip) (e : Event) → (is_pulse e && is_armed c.state.stage) ≡ false → (next n c e).image ≡ c.image
+  pub number_kept : (c : Chip) (e : Event) → (next n c e).state.number ≡ c.state.number
   -- a pulse on an armed chip ANDs the byte into the target, unless that is protected or a gap
-  pub armed-pulse : (c : Chip) (mode : WriteMode) (t : Target) (byte : ℕ) → c.state.stage ≡ Memory (Armed mode t byte) → Ready n c
+  pub armed_pulse : (c : Chip) (mode : WriteMode) (t : Target) (byte : ℕ) → c.state.stage ≡ Memory (Armed mode t byte) → Ready n c
       → (next n c pulse).image ≡ programmed n c.image t byte
   -- a slot when armed silences the chip
-  pub armed-slot : (c : Chip) (mode : WriteMode) (t : Target) (byte : ℕ) (bit : Bool) → Ready n (c at Memory (Armed mode t byte))
+  pub armed_slot : (c : Chip) (mode : WriteMode) (t : Target) (byte : ℕ) (bit : Bool) → Ready n (c at Memory (Armed mode t byte))
       → Reaches n (c at Memory (Armed mode t byte)) (slot bit ∷ []) (bit ∷ []) (c at silent)
   -- a silent chip stays so until reset, replying with the master's bit
-  pub silent-stays : (c : Chip) (e : Event) → Ready n (c at silent) → is_reset e ≡ false → Reaches n (c at silent) (e ∷ []) (silent_reply e ∷ []) (c at silent)
+  pub silent_stays : (c : Chip) (e : Event) → Ready n (c at silent) → is_reset e ≡ false → Reaches n (c at silent) (e ∷ []) (silent_reply e ∷ []) (c at silent)
   -- power loss keeps the image and makes the chip silent
-  pub power-loss : (c : Chip) → Ready n c → Reaches n c (power_loss ∷ []) (true ∷ []) (c at silent)
+  pub power_loss_law : (c : Chip) → Ready n c → Reaches n c (power_loss ∷ []) (true ∷ []) (c at silent)
 
 -- ---- ROM commands
 
@@ -128,7 +128,7 @@ pub record WriteLaws (n : ℕ) : Type 0 where
       (false ∷ ((ls ++ bits_of_bytes (header (write_command mode space) a)) ++ write_lines n c.image mode space k (crc16_of (header (write_command mode space) k)) bytes))
       ((c at before_byte n mode space (k + length bytes)) holding written_from n c.image space k bytes)
   -- the same with any master's bits in the slots in which the chip sends; what is read back stands in the image afterwards, as no address is written twice
-  pub any-bits : (c : Chip) {ms ls : List Bool} (mode : WriteMode) (space : Space) (a : ℕ) (cycles : List (WriteCycle mode)) → Ready n c → Selection c.state.number ms ls
+  pub any_bits : (c : Chip) {ms ls : List Bool} (mode : WriteMode) (space : Space) (a : ℕ) (cycles : List (WriteCycle mode)) → Ready n c → Selection c.state.number ms ls
       → a < 65536 → let k = kept_address n a in let new = written_from n c.image space k (cycle_bytes cycles) in
       k + length cycles ≤ limit_of n space → 0 < length cycles
       → Reaches n c
@@ -161,7 +161,7 @@ pub record SilenceLaws (n : ℕ) : Type 0 where
       → (eqb byte 0x0F ≡ false) → (eqb byte 0x55 ≡ false) → (eqb byte 0xF3 ≡ false) → (eqb byte 0xF5 ≡ false)
       → Reaches n c (reset ∷ slots (ms ++ bits_of 8 byte)) (false ∷ (ls ++ bits_of 8 byte)) (c at silent)
   -- a start address of sixteen bits that, as kept, the memory does not have
-  pub too-high : (c : Chip) {ms ls : List Bool} (a : ℕ) → Ready n c → Selection c.state.number ms ls → a < 65536
+  pub too_high : (c : Chip) {ms ls : List Bool} (a : ℕ) → Ready n c → Selection c.state.number ms ls → a < 65536
       → (limit_of n Data ≤ kept_address n a → Silenced n c ms ls 0xF0 a × Silenced n c ms ls 0xA5 a)
       × (limit_of n Status ≤ kept_address n a → Silenced n c ms ls 0xAA a)
       × ((mode : WriteMode) (space : Space) → limit_of n space ≤ kept_address n a → Silenced n c ms ls (write_command mode space) a)
@@ -192,13 +192,13 @@ pub record NoticeLaws (n : ℕ) : Type 0 where
       → kept_address n a < limit_of n Data → HeardWithCrc n c ms ls 0xA5 a (byte ∷ []) → a < 2 ^ address_bits n
   pub write : (c : Chip) {ms ls : List Bool} (space : Space) (a byte : ℕ) → Ready n c → Selection c.state.number ms ls → a < 65536
       → kept_address n a < limit_of n space → byte < 256 → WriteFits n c ms ls space a byte → a < 2 ^ address_bits n
-  pub memory-fits : (c : Chip) {ms ls : List Bool} (a : ℕ) → Ready n c → Selection c.state.number ms ls → a < limit_of n Data
+  pub memory_fits : (c : Chip) {ms ls : List Bool} (a : ℕ) → Ready n c → Selection c.state.number ms ls → a < limit_of n Data
       → HeardWithCrc n c ms ls 0xF0 a (values_from (data_byte n c.image) a (limit_of n Data - a))
-  pub status-fits : (c : Chip) {ms ls : List Bool} (a : ℕ) → Ready n c → Selection c.state.number ms ls → a < limit_of n Status
+  pub status_fits : (c : Chip) {ms ls : List Bool} (a : ℕ) → Ready n c → Selection c.state.number ms ls → a < limit_of n Status
       → HeardWithCrc n c ms ls 0xAA a (values_from (status_byte n c.image) a (8 - a % 8))
   pub extended_fits : (c : Chip) {ms ls : List Bool} (a : ℕ) → Ready n c → Selection c.state.number ms ls → a < limit_of n Data
       → HeardWithCrc n c ms ls 0xA5 a (redirection_of n c.image (a / 32) ∷ [])
-  pub write-fits : (c : Chip) {ms ls : List Bool} (space : Space) (a byte : ℕ) → Ready n c → Selection c.state.number ms ls → a < limit_of n space → byte < 256
+  pub write_fits : (c : Chip) {ms ls : List Bool} (space : Space) (a byte : ℕ) → Ready n c → Selection c.state.number ms ls → a < limit_of n space → byte < 256
       → WriteFits n c ms ls space a byte
 
 -- ---- the DS2505's own numbers
@@ -212,5 +212,5 @@ pub record Ds2505Starts : Type 0 where
       → Draws 64 c ms ls (header 0xA5 a) (extended_stream 64 c.image (a % 0x800))
   pub status : (c : Chip) {ms ls : List Bool} (a : ℕ) → Ready 64 c → Selection c.state.number ms ls → a < 65536 → a % 0x800 < 0x140
       → Draws 64 c ms ls (header 0xAA a) (status_stream 64 c.image (a % 0x800))
-  pub silent-status : (c : Chip) {ms ls : List Bool} (a : ℕ) → Ready 64 c → Selection c.state.number ms ls → a < 65536 → 0x140 ≤ a % 0x800
+  pub silent_status : (c : Chip) {ms ls : List Bool} (a : ℕ) → Ready 64 c → Selection c.state.number ms ls → a < 65536 → 0x140 ≤ a % 0x800
       → Draws 64 c ms ls (header 0xAA a) []

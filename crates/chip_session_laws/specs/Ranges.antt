@@ -61,7 +61,7 @@ pub record ChipRanges (n size data_end status_end : ℕ) : Type 0 where
   -- nothing else is refused: a state in the list draws a reply from every event ..
   pub within : (c : Chip) (e : Event) → length c.image ≡ size → ChipListed data_end status_end c.state.stage → (reply : Bool) × (draws n c e ≡ accepted reply)
   -- .. and never 2, whatever the image
-  pub never-2 : (c : Chip) (e : Event) (values : List ℕ) → ChipListed data_end status_end c.state.stage → draws n c e ≡ refused 2 values → ⊥
+  pub never_2 : (c : Chip) (e : Event) (values : List ℕ) → ChipListed data_end status_end c.state.stage → draws n c e ≡ refused 2 values → ⊥
   -- the state at power-up is in the list, and an event leaves a state there, whatever the image and its length
-  pub power-up : (number : List ℕ) → ChipListed data_end status_end (power_up number).stage
+  pub power_up_law : (number : List ℕ) → ChipListed data_end status_end (power_up number).stage
   pub stays : (c : Chip) (e : Event) → ChipListed data_end status_end c.state.stage → ChipListed data_end status_end (next n c e).state.stage

@@ -94,8 +94,8 @@ pub record WriteCycle (mode : WriteMode) : Type 0 where
   pub crc : List Bool
   pub back : List Bool
   pub small : byte < 256
-  pub crc-bits : length crc ≡ crc_slots mode
-  pub back-bits : length back ≡ 8
+  pub crc_bits_law : length crc ≡ crc_slots mode
+  pub back_bits : length back ≡ 8
 
 unfoldable pub cycle_events : {mode : WriteMode} → List (WriteCycle mode) → List Event
 cycle_events [] = []

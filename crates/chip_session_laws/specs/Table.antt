@@ -36,24 +36,24 @@ bit img i k = get_or img i 0 / 2 ^ k % 2
 
 -- the status address a is in no row of the table: 008h-01Fh, 028h-03Fh and 048h-0FFh for 64 pages
 pub data Gap (n : ℕ) : ℕ → Type 0 where
-  after-data : {a : ℕ} → n / 8 ≤ a → a < 0x020 → Gap n a
-  after-redirection : {a : ℕ} → 0x020 + n / 8 ≤ a → a < 0x040 → Gap n a
-  after-used : {a : ℕ} → 0x040 + n / 8 ≤ a → a < 0x100 → Gap n a
+  after_data : {a : ℕ} → n / 8 ≤ a → a < 0x020 → Gap n a
+  after_redirection_law : {a : ℕ} → 0x020 + n / 8 ≤ a → a < 0x040 → Gap n a
+  after_used : {a : ℕ} → 0x040 + n / 8 ≤ a → a < 0x100 → Gap n a
 
 -- The bytes that a write changes: the data of page a / 32 and the redirection byte of page p where their bit is 1, and the three fields of
 -- bits. The bit of page p in a field is bit p modulo 8 of byte p divided by 8.
 pub data Writable (n : ℕ) (img : List ℕ) : Space → ℕ → Type 0 where
-  data-open : {a : ℕ} → bit img (32 * n + (0x000 + a / 32 / 8)) (a / 32 % 8) ≡ 1 → Writable n img Data a
-  redirection-open : {a : ℕ} (p : ℕ) → p < n → a ≡ 0x100 + p → bit img (32 * n + (0x020 + p / 8)) (p % 8) ≡ 1 → Writable n img Status a
-  data-field : {a : ℕ} → a < n / 8 → Writable n img Status a
-  redirection-field : {a : ℕ} → 0x020 ≤ a → a < 0x020 + n / 8 → Writable n img Status a
-  used-field : {a : ℕ} → 0x040 ≤ a → a < 0x040 + n / 8 → Writable n img Status a
+  data_open : {a : ℕ} → bit img (32 * n + (0x000 + a / 32 / 8)) (a / 32 % 8) ≡ 1 → Writable n img Data a
+  redirection_open : {a : ℕ} (p : ℕ) → p < n → a ≡ 0x100 + p → bit img (32 * n + (0x020 + p / 8)) (p % 8) ≡ 1 → Writable n img Status a
+  data_field : {a : ℕ} → a < n / 8 → Writable n img Status a
+  redirection_field : {a : ℕ} → 0x020 ≤ a → a < 0x020 + n / 8 → Writable n img Status a
+  used_field : {a : ℕ} → 0x040 ≤ a → a < 0x040 + n / 8 → Writable n img Status a
 
 -- The bytes that it leaves: the protected ones, and the gaps.
 pub data Unwritable (n : ℕ) (img : List ℕ) : Space → ℕ → Type 0 where
-  data-closed : {a : ℕ} → bit img (32 * n + (0x000 + a / 32 / 8)) (a / 32 % 8) ≡ 0 → Unwritable n img Data a
-  redirection-closed : {a : ℕ} (p : ℕ) → p < n → a ≡ 0x100 + p → bit img (32 * n + (0x020 + p / 8)) (p % 8) ≡ 0 → Unwritable n img Status a
-  in-gap : {a : ℕ} → Gap n a → Unwritable n img Status a
+  data_closed : {a : ℕ} → bit img (32 * n + (0x000 + a / 32 / 8)) (a / 32 % 8) ≡ 0 → Unwritable n img Data a
+  redirection_closed : {a : ℕ} (p : ℕ) → p < n → a ≡ 0x100 + p → bit img (32 * n + (0x020 + p / 8)) (p % 8) ≡ 0 → Unwritable n img Status a
+  in_gap : {a : ℕ} → Gap n a → Unwritable n img Status a
 
 -- ---- what a pulse does
 
@@ -88,8 +88,8 @@ pub record ByteLaws (n : ℕ) : Type 0 where
   pub gap : (img : List ℕ) (a : ℕ) → Gap n a → status_byte n img a ≡ 0xFF
   pub redirection : (img : List ℕ) (p : ℕ) → redirection_of n img p ≡ get_or img (32 * n + (0x100 + p)) 0
   -- what is read back of a write is the byte of the address that it went to
-  pub target-data : (img : List ℕ) (a : ℕ) → target_byte n img (DataTarget (record { 0 = a })) ≡ data_byte n img a
-  pub target-status : (img : List ℕ) (a : ℕ) → target_byte n img (StatusTarget (record { 0 = a })) ≡ status_byte n img a
+  pub target_data : (img : List ℕ) (a : ℕ) → target_byte n img (DataTarget (record { 0 = a })) ≡ data_byte n img a
+  pub target_status : (img : List ℕ) (a : ℕ) → target_byte n img (StatusTarget (record { 0 = a })) ≡ status_byte n img a
 
 -- ---- the gaps are neither read nor altered
 
@@ -112,13 +112,13 @@ pub record GapLaws (n : ℕ) : Type 0 where
 -- ---- the DS2505's own numbers: 2,048 bytes of data, status addresses 000h to 13Fh
 
 pub record Ds2505Rows (img : List ℕ) : Type 0 where
-  pub page-data : (a : ℕ) → bit img (2048 + a / 32 / 8) (a / 32 % 8) ≡ 1 → Writable 64 img Data a
-  pub page-protected : (a : ℕ) → bit img (2048 + a / 32 / 8) (a / 32 % 8) ≡ 0 → Unwritable 64 img Data a
+  pub page_data : (a : ℕ) → bit img (2048 + a / 32 / 8) (a / 32 % 8) ≡ 1 → Writable 64 img Data a
+  pub page_protected : (a : ℕ) → bit img (2048 + a / 32 / 8) (a / 32 % 8) ≡ 0 → Unwritable 64 img Data a
   pub redirection : (p : ℕ) → p ≤ 63 → bit img (2048 + (0x020 + p / 8)) (p % 8) ≡ 1 → Writable 64 img Status (0x100 + p)
-  pub redirection-protected : (p : ℕ) → p ≤ 63 → bit img (2048 + (0x020 + p / 8)) (p % 8) ≡ 0 → Unwritable 64 img Status (0x100 + p)
-  pub data-bits : (a : ℕ) → a ≤ 0x007 → Writable 64 img Status a
-  pub redirection-bits : (a : ℕ) → 0x020 ≤ a → a ≤ 0x027 → Writable 64 img Status a
-  pub used-bits : (a : ℕ) → 0x040 ≤ a → a ≤ 0x047 → Writable 64 img Status a
-  pub first-gap : (a : ℕ) → 0x008 ≤ a → a ≤ 0x01F → Gap 64 a
-  pub second-gap : (a : ℕ) → 0x028 ≤ a → a ≤ 0x03F → Gap 64 a
-  pub third-gap : (a : ℕ) → 0x048 ≤ a → a ≤ 0x0FF → Gap 64 a
+  pub redirection_protected : (p : ℕ) → p ≤ 63 → bit img (2048 + (0x020 + p / 8)) (p % 8) ≡ 0 → Unwritable 64 img Status (0x100 + p)
+  pub data_bits_law : (a : ℕ) → a ≤ 0x007 → Writable 64 img Status a
+  pub redirection_bits : (a : ℕ) → 0x020 ≤ a → a ≤ 0x027 → Writable 64 img Status a
+  pub used_bits : (a : ℕ) → 0x040 ≤ a → a ≤ 0x047 → Writable 64 img Status a
+  pub first_gap : (a : ℕ) → 0x008 ≤ a → a ≤ 0x01F → Gap 64 a
+  pub second_gap : (a : ℕ) → 0x028 ≤ a → a ≤ 0x03F → Gap 64 a
+  pub third_gap : (a : ℕ) → 0x048 ≤ a → a ≤ 0x0FF → Gap 64 a

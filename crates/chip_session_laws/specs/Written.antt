@@ -46,5 +46,5 @@ pub record Writes (n : ℕ) (mode : WriteMode) (space : Space) (command : ℕ) :
 pub record WrittenLaws (n : ℕ) : Type 0 where
   pub memory : Writes n Ordinary Data 0x0F
   pub status : Writes n Ordinary Status 0x55
-  pub quick-memory : Writes n Quick Data 0xF3
-  pub quick-status : Writes n Quick Status 0xF5
+  pub quick_memory : Writes n Quick Data 0xF3
+  pub quick_status : Writes n Quick Status 0xF5

@@ -5,7 +5,7 @@ use Rattle.base_types.specs.declared.address.Space.{Space}
 use Rattle.base_types.specs.declared.address.Space.TheVariants.{Data, Status}
 use Rattle.chip_stage.specs.Limits.{limit_of}
 
-pub limit-fits : (n : ℕ) (space : Space) → n ≤ 256 → limit_of n space ≤ 8192
+pub limit_fits : (n : ℕ) (space : Space) → n ≤ 256 → limit_of n space ≤ 8192
 unfolding limit_of
-limit-fits n Data le = omega arith
-limit-fits n Status le = omega arith
+limit_fits n Data le = omega arith
+limit_fits n Status le = omega arith

@@ -40,20 +40,20 @@ pub record CallLaws (n : ℕ) : Type 1 where
   -- the ranges are those listed; 2 is told of a state outside them, which comes back the same, and of no other
   pub listed : (s : Publisher) → (publisher_in_range n s ≡ true) ↔ PublisherListed n s
   pub outside : (s : Publisher) (reply : Bool) → publisher_in_range n s ≡ false → (call_answer n s reply ≡ refused 2 []) × (call_state n s reply ≡ s)
-  pub never-2 : (s : Publisher) (reply : Bool) (values : List ℕ) → publisher_in_range n s ≡ true → call_answer n s reply ≡ refused 2 values → ⊥
+  pub never_2 : (s : Publisher) (reply : Bool) (values : List ℕ) → publisher_in_range n s ≡ true → call_answer n s reply ≡ refused 2 values → ⊥
   -- what else is told by a refusal has one of these numbers
   pub numbers : (s : Publisher) (reply : Bool) (number : ℕ) (values : List ℕ) → publisher_in_range n s ≡ true → call_answer n s reply ≡ refused number values
       → tells_number s.kind.mode number ≡ true
   -- in the quick mode 6 is never told, whatever the state and the reply
-  pub no-crc : (s : Publisher) (reply : Bool) (values : List ℕ) → s.kind.mode ≡ Quick → call_answer n s reply ≡ refused 6 values → ⊥
+  pub no_crc : (s : Publisher) (reply : Bool) (values : List ℕ) → s.kind.mode ≡ Quick → call_answer n s reply ≡ refused 6 values → ⊥
   -- from every start, refused ones too, whatever the replies, the calls tell what the script does
   pub plays : (kind : UpdateKind) (img new : List ℕ) (p : ℕ) (replies : List Bool)
       → update_answers n (publisher_state n kind img new p) replies ≡ play (publisher_script n kind img new (choice_of n kind.placement img new p)) replies
   -- and so from every state as an accepting start hands it back, whatever pages and bytes it holds
-  pub plays-started : (s : Publisher) (replies : List Bool) → Started n s → update_answers n s replies ≡ play (script_in s) replies
+  pub plays_started : (s : Publisher) (replies : List Bool) → Started n s → update_answers n s replies ≡ play (script_in s) replies
   -- whatever the replies, the events are the first of the update's
   pub ordered : (s : Publisher) (replies : List Bool) → Started n s → Begins (events_in s) (events_of (update_answers n s replies))
   -- joined to any bus, it does what the script does there
-  pub plays-on : {B : Type 0} (react : B → Event → B) (line : B → Event → Bool) (s : Publisher) (b : B) (replies : List Bool) → Started n s
+  pub plays_on : {B : Type 0} (react : B → Event → B) (line : B → Event → Bool) (s : Publisher) (b : B) (replies : List Bool) → Started n s
       → Good react line out_of b (update_answers n s replies) replies
       → update_answers n s replies ≡ played_telling react line (script_in s) b (length replies)

@@ -38,6 +38,6 @@ StageListed kind n Done = Unit {0}
 StageListed kind n (Stopped stop) = StopListed kind.mode n stop
 
 pub record PublisherListed (n : ℕ) (s : Publisher) : Type 0 where
-  pub superseded-page : s.superseded.0 < n
-  pub target-page : s.target.0 < n
+  pub superseded_page : s.superseded.0 < n
+  pub target_page : s.target.0 < n
   pub stage : StageListed s.kind n s.stage

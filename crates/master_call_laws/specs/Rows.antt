@@ -44,7 +44,7 @@ protection_rows =
     ∷ (update_of (protecting DataProtection 9 (protecting RedirectionProtection 9 redirected_once)) gives Refused (DataProtected (page_of 9)))
     ∷ []
 
-pub protection_rows-hold : Hold protection_rows
+pub protection_rows_hold : Hold protection_rows
 unfolding protection_rows update_of redirected_once protecting page_of choice_of choice_walked choice_final choice_free found_choice is_image is_page page_bit first_address walk_of walk_from redirection_of
     lowest_free is_free_other is_free is_unnamed every first is_blank page_bytes programmed is_writable status_writable is_held is_within bit_of index_of
-protection_rows-hold = refl
+protection_rows_hold = refl

@@ -8,10 +8,10 @@ use lib.ListN.{set, replicate}
 use borrow.Author.Tests.{lt-ltb}
 use Rattle.base_types.specs.Bits.{shift_in, bits_of, bits_of_bytes}
 use Rattle.base_types.specs.Refusal.{number_of, values_of}
-use Rattle.base_types.proofs.Collect.{byte-held}
+use Rattle.base_types.proofs.Collect.{byte_held}
 use Rattle.base_types.proofs.Values.{value_of}
 use Rattle.bus_scripts.specs.Script.{Script, stops, gives, check, reset, send_bits, send_bytes, read_byte, play}
-use Rattle.bus_scripts.proofs.Follows.{Follows, sending, stopping, giving, resetting, checking, receiving, receiving-bytes, plays-from}
+use Rattle.bus_scripts.proofs.Follows.{Follows, sending, stopping, giving, resetting, checking, receiving, receiving_bytes, plays_from}
 use Rattle.master_number.specs.declared.Phase.{Phase}
 use Rattle.master_number.specs.declared.Phase.TheVariants.{Presence, Command, Receive, Closing, Stopped}
 use Rattle.master_number.specs.declared.NumberStop.{NumberStop}
@@ -24,7 +24,7 @@ use Rattle.master_number.specs.Code.NumberSteps.{number_next_at, number_next, nu
 use Rattle.master_number.specs.NumberRead.{number_begun, number_answer, number_state}
 use Rattle.master_number_laws.specs.Laws.{number_answers_to}
 use Rattle.master_number_laws.specs.Script.{number_script}
-use Rattle.master_number_laws.proofs.Ranges.{NumberFit, number_shown, number-starts, fit-step, state-is, answer-is}
+use Rattle.master_number_laws.proofs.Ranges.{NumberFit, number_shown, number_starts, fit_step, state_is, answer_is}
 
 infixl 25 ◌having◌
 abbrev ◌having◌ : Phase → List ℕ → NumberRead
@@ -41,25 +41,25 @@ halted cause bytes = stopping refl refl (λ r. refl)
 
 -- ---- one byte
 
-bit-next : (left k v : ℕ) (bytes : List ℕ) (r : Bool) → number_next (Receive k (suc (suc left)) v having bytes) r ≡ Receive k (suc left) (shift_in v r) having bytes
+bit_next : (left k v : ℕ) (bytes : List ℕ) (r : Bool) → number_next (Receive k (suc (suc left)) v having bytes) r ≡ Receive k (suc left) (shift_in v r) having bytes
 unfolding number_next_at number_bit_in
-bit-next left k v bytes r = let e : suc (suc left) - 1 ≡ suc left = omega arith in simp (lt-ltb 1 (suc (suc left)) (omega arith), e)
+bit_next left k v bytes r = let e : suc (suc left) - 1 ≡ suc left = omega arith in simp (lt-ltb 1 (suc (suc left)) (omega arith), e)
 
-byte-in : (k : ℕ) (bytes : List ℕ) (on : ℕ → Script) → ((v : ℕ) → NumberFollows (number_byte_in (Presence having set bytes k v) k) (on v))
+byte_in_lem : (k : ℕ) (bytes : List ℕ) (on : ℕ → Script) → ((v : ℕ) → NumberFollows (number_byte_in (Presence having set bytes k v) k) (on v))
     → NumberFollows (Receive k 8 0 having bytes) (read_byte on)
 unfolding number_next_at number_bit_in number_phase_answer number_byte_in crc_judged family_judged
-byte-in k bytes on f =
+byte_in_lem k bytes on f =
     receiving 128 (λ left v. Receive k left v having bytes) (λ v. number_byte_in (Presence having set bytes k v) k) (λ left v. refl) (λ left v. refl)
-    (λ left v r. bit-next left k v bytes r) (λ v r. refl) 7 0 on (λ bs l. rw (byte-held bs l) (f (value_of bs)))
+    (λ left v r. bit_next left k v bytes r) (λ v r. refl) 7 0 on (λ bs l. rw (byte_held bs l) (f (value_of bs)))
 
 byte_more : (k : ℕ) (bytes : List ℕ) (on : ℕ → Script) → k < 7 → ((v : ℕ) → NumberFollows (Receive (k + 1) 8 0 having set bytes k v) (on v))
     → NumberFollows (Receive k 8 0 having bytes) (read_byte on)
 unfolding number_byte_in
-byte_more k bytes on l f = byte-in k bytes on (λ v. simp (lt-ltb k 7 l) (f v))
+byte_more k bytes on l f = byte_in_lem k bytes on (λ v. simp (lt-ltb k 7 l) (f v))
 
 byte_last : (bytes : List ℕ) (on : ℕ → Script) → ((v : ℕ) → NumberFollows (crc_judged (Presence having set bytes 7 v)) (on v)) → NumberFollows (Receive 7 8 0 having bytes) (read_byte on)
 unfolding number_byte_in
-byte_last bytes on f = byte-in 7 bytes on f
+byte_last bytes on f = byte_in_lem 7 bytes on f
 
 -- ---- the number is judged, and the closing reset
 
@@ -85,11 +85,11 @@ opens : (r : Bool) → NumberFollows (number_next number_begun r) number_script
 unfolding number_script number_next_at number_presence number_phase_answer
 opens r =
     resetting refl refl (halted NoPresence (replicate 8 0))
-    (commands (replicate 8 0) _ (receiving-bytes 7 (λ k bytes. Receive k 8 0 having bytes) (λ bytes. crc_judged (Presence having bytes)) byte_more byte_last
+    (commands (replicate 8 0) _ (receiving_bytes 7 (λ k bytes. Receive k 8 0 having bytes) (λ bytes. crc_judged (Presence having bytes)) byte_more byte_last
     (replicate 8 0) _ refl (λ number l. judges number)))
 
-pub number-plays : (replies : List Bool) → number_answers_to number_begun replies ≡ play number_script replies
-number-plays replies =
-    plays-from number_state number_answer (λ c s. (c ≡ s) × NumberFit s)
-    (λ c s r v. (ap (λ (x : NumberRead). number_state x r) v.0 ∙ state-is s r v.1, fit-step s r v.1))
-    (λ c s r v. ap (λ (x : NumberRead). number_answer x r) v.0 ∙ answer-is s r v.1) replies number_begun number_begun (λ _. number_script) (refl, number-starts) opens
+pub number_plays : (replies : List Bool) → number_answers_to number_begun replies ≡ play number_script replies
+number_plays replies =
+    plays_from number_state number_answer (λ c s. (c ≡ s) × NumberFit s)
+    (λ c s r v. (ap (λ (x : NumberRead). number_state x r) v.0 ∙ state_is s r v.1, fit_step s r v.1))
+    (λ c s r v. ap (λ (x : NumberRead). number_answer x r) v.0 ∙ answer_is s r v.1) replies number_begun number_begun (λ _. number_script) (refl, number_starts) opens

@@ -13,7 +13,7 @@ use Rattle.base_types.specs.Refusal.{number_of}
 use Rattle.base_types.proofs.Tests.{both, either}
 use Rattle.bus_scripts.specs.Next.{Next}
 use Rattle.bus_scripts.specs.Ranges.{among}
-use Rattle.bus_scripts.proofs.Ranges.{out-means, out-is, one_less}
+use Rattle.bus_scripts.proofs.Ranges.{out_means, out_is, one_less}
 use Rattle.master_number.specs.declared.Phase.{Phase}
 use Rattle.master_number.specs.declared.Phase.TheVariants.{Begin, Presence, Command, Receive, Closing, Done, Stopped}
 use Rattle.master_number.specs.declared.NumberStop.{NumberStop}
@@ -32,26 +32,26 @@ sound : (bytes : List ℕ) → (is_number bytes ≡ true) ↔ Sound bytes
 unfolding is_number
 sound bytes = (λ h. let b = both (crc8_agrees bytes) (family_agrees bytes) h in record { crc = b.0; family = b.1 }, λ s. simp (s.crc, s.family))
 
-stop-numbers : (cause : NumberStop) → among (number_of (number_stop cause)) (13 ∷ 14 ∷ 15 ∷ []) ≡ true
-stop-numbers NoPresence = refl
-stop-numbers Crc8 = refl
-stop-numbers Family = refl
+stop_numbers : (cause : NumberStop) → among (number_of (number_stop cause)) (13 ∷ 14 ∷ 15 ∷ []) ≡ true
+stop_numbers NoPresence = refl
+stop_numbers Crc8 = refl
+stop_numbers Family = refl
 
-phase-is : (phase : Phase) (bytes : List ℕ) → (number_phase_in_range phase bytes ≡ true) ↔ NumberListed phase bytes
+phase_is : (phase : Phase) (bytes : List ℕ) → (number_phase_in_range phase bytes ≡ true) ↔ NumberListed phase bytes
 unfolding number_phase_in_range number_receive_in_range
-phase-is Begin bytes = (λ h. tt, λ l. refl)
-phase-is Presence bytes = (λ h. tt, λ l. refl)
-phase-is (Command i) bytes = (λ h. omega (arith, ltb-true i 8 h), λ l. lt-ltb i 8 (omega arith))
-phase-is (Receive k left register) bytes = (
-  λ h. let o = out-means 8 (ltb k 8) left h in (omega (arith, ltb-true k 8 o.1), o.0),
-  λ l. out-is 8 (ltb k 8) left l.1 (lt-ltb k 8 (omega (arith, l.0))),
+phase_is Begin bytes = (λ h. tt, λ l. refl)
+phase_is Presence bytes = (λ h. tt, λ l. refl)
+phase_is (Command i) bytes = (λ h. omega (arith, ltb-true i 8 h), λ l. lt-ltb i 8 (omega arith))
+phase_is (Receive k left register) bytes = (
+  λ h. let o = out_means 8 (ltb k 8) left h in (omega (arith, ltb-true k 8 o.1), o.0),
+  λ l. out_is 8 (ltb k 8) left l.1 (lt-ltb k 8 (omega (arith, l.0))),
 )
-phase-is Closing bytes = sound bytes
-phase-is Done bytes = sound bytes
-phase-is (Stopped cause) bytes = (λ h. stop-numbers cause, λ l. refl)
+phase_is Closing bytes = sound bytes
+phase_is Done bytes = sound bytes
+phase_is (Stopped cause) bytes = (λ h. stop_numbers cause, λ l. refl)
 
-pub number-listed : (s : NumberRead) → (number_in_range s ≡ true) ↔ NumberListed s.phase s.bytes
-number-listed s = phase-is s.phase s.bytes
+pub number_listed : (s : NumberRead) → (number_in_range s ≡ true) ↔ NumberListed s.phase s.bytes
+number_listed s = phase_is s.phase s.bytes
 
 -- ---- calls
 
@@ -62,60 +62,60 @@ NumberFit s = number_in_range s ≡ true
 abbrev pub number_shown : NumberRead → Outcome Next
 number_shown s = answer_outcome (number_phase_answer s.phase) s.bytes
 
-pub number-starts : NumberFit number_begun
+pub number_starts : NumberFit number_begun
 unfolding number_phase_in_range
-number-starts = refl
+number_starts = refl
 
-judged-fit : (s : NumberRead) → NumberFit (crc_judged s)
+judged_fit : (s : NumberRead) → NumberFit (crc_judged s)
 unfolding crc_judged family_judged number_phase_in_range is_number
-judged-fit s = either NumberFit (crc8_agrees s.bytes) _ _ (λ c. either NumberFit (family_agrees s.bytes) _ _ (λ f. simp (c, f)) (λ _. refl)) (λ _. refl)
+judged_fit s = either NumberFit (crc8_agrees s.bytes) _ _ (λ c. either NumberFit (family_agrees s.bytes) _ _ (λ f. simp (c, f)) (λ _. refl)) (λ _. refl)
 
-next-fit : (phase : Phase) (s : NumberRead) (r : Bool) → number_phase_in_range phase s.bytes ≡ true → NumberFit s → NumberFit (number_next_at phase s r)
+next_fit : (phase : Phase) (s : NumberRead) (r : Bool) → number_phase_in_range phase s.bytes ≡ true → NumberFit s → NumberFit (number_next_at phase s r)
 unfolding number_next_at number_presence after_read_rom number_byte_in number_bit_in number_closed number_phase_in_range number_receive_in_range
-next-fit Begin s r h f = refl
-next-fit Presence s true h f = refl
-next-fit Presence s false h f = refl
-next-fit (Command i) s r h f =
+next_fit Begin s r h f = refl
+next_fit Presence s true h f = refl
+next_fit Presence s false h f = refl
+next_fit (Command i) s r h f =
     either (λ (p : Phase). number_phase_in_range p s.bytes ≡ true) (ltb i 7) _ _ (λ t. lt-ltb (i + 1) 8 (omega (arith, ltb-true i 7 t))) (λ _. refl)
-next-fit (Receive k left v) s r h f =
+next_fit (Receive k left v) s r h f =
     either NumberFit (ltb 1 left) _ _ (λ t. one_less 8 (ltb k 8) left (ltb-true 1 left t) h)
-    (λ _. either NumberFit (ltb k 7) _ _ (λ t. lt-ltb (k + 1) 8 (omega (arith, ltb-true k 7 t))) (λ _. judged-fit _))
-next-fit Closing s true h f = refl
-next-fit Closing s false h f = h
-next-fit Done s r h f = f
-next-fit (Stopped cause) s r h f = f
+    (λ _. either NumberFit (ltb k 7) _ _ (λ t. lt-ltb (k + 1) 8 (omega (arith, ltb-true k 7 t))) (λ _. judged_fit _))
+next_fit Closing s true h f = refl
+next_fit Closing s false h f = h
+next_fit Done s r h f = f
+next_fit (Stopped cause) s r h f = f
 
-pub fit-step : (s : NumberRead) (r : Bool) → NumberFit s → NumberFit (number_next s r)
-fit-step s r h = next-fit s.phase s r h h
+pub fit_step : (s : NumberRead) (r : Bool) → NumberFit s → NumberFit (number_next s r)
+fit_step s r h = next_fit s.phase s r h h
 
-pub state-is : (s : NumberRead) (r : Bool) → NumberFit s → number_state s r ≡ number_next s r
+pub state_is : (s : NumberRead) (r : Bool) → NumberFit s → number_state s r ≡ number_next s r
 unfolding number_state
-state-is s r f = simp f
+state_is s r f = simp f
 
-pub answer-is : (s : NumberRead) (r : Bool) → NumberFit s → number_answer s r ≡ number_shown (number_next s r)
+pub answer_is : (s : NumberRead) (r : Bool) → NumberFit s → number_answer s r ≡ number_shown (number_next s r)
 unfolding number_answer
-answer-is s r f = simp f
+answer_is s r f = simp f
 
-pub number-keeps : (s : NumberRead) (reply : Bool) → NumberFit s → NumberFit (number_state s reply)
-number-keeps s reply f = rw (state-is s reply f) (fit-step s reply f)
+pub number_keeps : (s : NumberRead) (reply : Bool) → NumberFit s → NumberFit (number_state s reply)
+number_keeps s reply f = rw (state_is s reply f) (fit_step s reply f)
 
 -- ---- number 2
 
-pub number-outside : (s : NumberRead) (reply : Bool) → number_in_range s ≡ false → (number_answer s reply ≡ refused 2 []) × (number_state s reply ≡ s)
+pub number_outside : (s : NumberRead) (reply : Bool) → number_in_range s ≡ false → (number_answer s reply ≡ refused 2 []) × (number_state s reply ≡ s)
 unfolding number_answer number_state
-number-outside s reply h = (simp h, simp h)
+number_outside s reply h = (simp h, simp h)
 
-not-2 : (phase : Phase) (bytes values : List ℕ) → answer_outcome (number_phase_answer phase) bytes ≡ refused 2 values → ⊥
+not_2 : (phase : Phase) (bytes values : List ℕ) → answer_outcome (number_phase_answer phase) bytes ≡ refused 2 values → ⊥
 unfolding number_phase_answer
-not-2 Begin bytes values e = let z : ◌≡◌ {A = ℕ} 0 1 = cc in omega arith
-not-2 Presence bytes values e = let z : ◌≡◌ {A = ℕ} 0 1 = cc in omega arith
-not-2 (Command i) bytes values e = let z : ◌≡◌ {A = ℕ} 0 1 = cc in omega arith
-not-2 (Receive k left v) bytes values e = let z : ◌≡◌ {A = ℕ} 0 1 = cc in omega arith
-not-2 Closing bytes values e = let z : ◌≡◌ {A = ℕ} 0 1 = cc in omega arith
-not-2 Done bytes values e = let z : ◌≡◌ {A = ℕ} 0 1 = cc in omega arith
-not-2 (Stopped NoPresence) bytes values e = let z : ◌≡◌ {A = ℕ} 13 2 = cc in omega arith
-not-2 (Stopped Crc8) bytes values e = let z : ◌≡◌ {A = ℕ} 14 2 = cc in omega arith
-not-2 (Stopped Family) bytes values e = let z : ◌≡◌ {A = ℕ} 15 2 = cc in omega arith
+not_2 Begin bytes values e = let z : ◌≡◌ {A = ℕ} 0 1 = cc in omega arith
+not_2 Presence bytes values e = let z : ◌≡◌ {A = ℕ} 0 1 = cc in omega arith
+not_2 (Command i) bytes values e = let z : ◌≡◌ {A = ℕ} 0 1 = cc in omega arith
+not_2 (Receive k left v) bytes values e = let z : ◌≡◌ {A = ℕ} 0 1 = cc in omega arith
+not_2 Closing bytes values e = let z : ◌≡◌ {A = ℕ} 0 1 = cc in omega arith
+not_2 Done bytes values e = let z : ◌≡◌ {A = ℕ} 0 1 = cc in omega arith
+not_2 (Stopped NoPresence) bytes values e = let z : ◌≡◌ {A = ℕ} 13 2 = cc in omega arith
+not_2 (Stopped Crc8) bytes values e = let z : ◌≡◌ {A = ℕ} 14 2 = cc in omega arith
+not_2 (Stopped Family) bytes values e = let z : ◌≡◌ {A = ℕ} 15 2 = cc in omega arith
 
-pub number-never-2 : (s : NumberRead) (reply : Bool) (values : List ℕ) → number_in_range s ≡ true → number_answer s reply ≡ refused 2 values → ⊥
-number-never-2 s reply values h e = not-2 (number_next s reply).phase (number_next s reply).bytes values (sym (answer-is s reply h) ∙ e)
+pub number_never_2 : (s : NumberRead) (reply : Bool) (values : List ℕ) → number_in_range s ≡ true → number_answer s reply ≡ refused 2 values → ⊥
+number_never_2 s reply values h e = not_2 (number_next s reply).phase (number_next s reply).bytes values (sym (answer_is s reply h) ∙ e)

@@ -55,7 +55,7 @@ pub record NumberLaws (n : ℕ) : Type 1 where
   -- the ranges are those listed; 2 is told of a state outside them, which comes back the same, and of no other
   pub listed : (s : NumberRead) → (number_in_range s ≡ true) ↔ NumberListed s.phase s.bytes
   pub outside : (s : NumberRead) (reply : Bool) → number_in_range s ≡ false → (number_answer s reply ≡ refused 2 []) × (number_state s reply ≡ s)
-  pub never-2 : (s : NumberRead) (reply : Bool) (values : List ℕ) → number_in_range s ≡ true → number_answer s reply ≡ refused 2 values → ⊥
+  pub never_2 : (s : NumberRead) (reply : Bool) (values : List ℕ) → number_in_range s ≡ true → number_answer s reply ≡ refused 2 values → ⊥
   -- whatever the replies, the calls tell what the script does
   pub plays : (replies : List Bool) → number_answers_to number_begun replies ≡ play number_script replies
   -- so, whatever the replies, the events are the first of the 74 ..
@@ -65,9 +65,9 @@ pub record NumberLaws (n : ℕ) : Type 1 where
   pub agreed : (replies : List Bool) (before later : List (Outcome Next)) (bytes : List ℕ)
       → number_answers_to number_begun replies ≡ before ++ (accepted (tells bytes) ∷ later) → NumberAgreed replies bytes
   -- .. and no image changes that the events reach
-  pub image-stays : (c : Chip) (replies : List Bool) → (run n c (events_of (number_answers_to number_begun replies))).image ≡ c.image
+  pub image_stays : (c : Chip) (replies : List Bool) → (run n c (events_of (number_answers_to number_begun replies))).image ≡ c.image
   -- joined to any bus, it does what the script does there
-  pub plays-on : {B : Type 0} (react : B → Event → B) (line : B → Event → Bool) (b : B) (replies : List Bool)
+  pub plays_on : {B : Type 0} (react : B → Event → B) (line : B → Event → Bool) (b : B) (replies : List Bool)
       → Good react line out_of b (number_answers_to number_begun replies) replies → number_answers_to number_begun replies ≡ played_telling react line number_script b (length replies)
   -- joined to a chip: all its answers, which are the events and then what the chip's number says, again and again
   pub joined : (c : Chip) (replies : List Bool) → Ready n c → Bytes c.state.number → Good (next n) (line_at n) out_of c (number_answers_to number_begun replies) replies

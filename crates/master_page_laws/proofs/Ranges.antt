@@ -14,7 +14,7 @@ use Rattle.base_types.specs.declared.address.Page.{Page}
 use Rattle.base_types.proofs.Tests.{both, either, beyond}
 use Rattle.chip_memory.specs.Layout.{is_page}
 use Rattle.chip_chain.specs.Walk.{named_by}
-use Rattle.bus_scripts.proofs.Ranges.{out-means, out-is, one_less}
+use Rattle.bus_scripts.proofs.Ranges.{out_means, out_is, one_less}
 use Rattle.master_page.specs.declared.Part.{Part}
 use Rattle.master_page.specs.declared.Part.TheVariants.{Redirection, RedirectionCrc, Data, DataCrc}
 use Rattle.master_page.specs.declared.Phase.{Phase}
@@ -25,7 +25,7 @@ use Rattle.master_page.specs.declared.PageRead.{PageRead}
 use Rattle.master_page.specs.Page.{page_stop}
 use Rattle.master_page_laws.specs.Script.{read_command, crc_word}
 use Rattle.master_page.specs.Code.PageSteps.{word_shift_in, page_with, page_stopped, page_presence, after_extended_read, hopped, page_named, byte_followed, redirection_judged}
-use Rattle.master_page.specs.Code.PageSteps.{next_data, data_judged, part_in, page_bit_in, page_closed, page_next_at, page_next, page_phase_answer}
+use Rattle.master_page.specs.Code.PageSteps.{next_data, data_judged, part_in_lem, page_bit_in, page_closed, page_next_at, page_next, page_phase_answer}
 use Rattle.master_page.specs.PageRead.{part_in_range, part_width, page_receive_in_range, page_stop_in_range, page_phase_in_range, page_in_range, page_begun, refused_start}
 use Rattle.master_page.specs.PageRead.{start_answer, start_state, read_outcome, page_shown, read_answer, read_state, read_buffer}
 use Rattle.master_page_laws.specs.Ranges.{PartListed, page_stops, PagePhaseListed, PageListed}
@@ -37,37 +37,37 @@ pub record Within (n size : ℕ) (s : PageRead) : Type 0 where
   pub phase : page_phase_in_range n s.phase ≡ true
   pub sized : length s.bytes ≡ size
 
-page-true : (n p : ℕ) → is_page n p ≡ true → p < n
+page_true : (n p : ℕ) → is_page n p ≡ true → p < n
 unfolding is_page
-page-true n p h = ltb-true p n h
+page_true n p h = ltb-true p n h
 
-is-page : (n p : ℕ) → p < n → is_page n p ≡ true
+is_page_lem : (n p : ℕ) → p < n → is_page n p ≡ true
 unfolding is_page
-is-page n p h = lt-ltb p n h
+is_page_lem n p h = lt-ltb p n h
 
 -- what the ranges say
-pub page-within : (n : ℕ) (s : PageRead) → page_in_range n s ≡ true → Within n (length s.bytes) s
+pub page_within : (n : ℕ) (s : PageRead) → page_in_range n s ≡ true → Within n (length s.bytes) s
 unfolding page_in_range
-page-within n s h =
+page_within n s h =
     let a = both (is_page n s.page.0) _ h in
     let b = both (ltb s.hops n) _ a.1 in
-    record { page = page-true n s.page.0 a.0; hops = ltb-true s.hops n b.0; phase = b.1; sized = refl }
+    record { page = page_true n s.page.0 a.0; hops = ltb-true s.hops n b.0; phase = b.1; sized = refl }
 
-pub in-range : (n : ℕ) {size : ℕ} (s : PageRead) → Within n size s → page_in_range n s ≡ true
+pub in_range_lem : (n : ℕ) {size : ℕ} (s : PageRead) → Within n size s → page_in_range n s ≡ true
 unfolding page_in_range
-in-range n s w = simp (is-page n s.page.0 w.page, lt-ltb s.hops n w.hops, w.phase)
+in_range_lem n s w = simp (is_page_lem n s.page.0 w.page, lt-ltb s.hops n w.hops, w.phase)
 
 -- ---- the list
 
-part-is : (part : Part) (left : ℕ) → (page_receive_in_range part left ≡ true) ↔ PartListed part left
+part_is : (part : Part) (left : ℕ) → (page_receive_in_range part left ≡ true) ↔ PartListed part left
 unfolding page_receive_in_range
-part-is Redirection left = (λ h. (out-means 8 true left h).0, λ l. out-is 8 true left l refl)
-part-is (RedirectionCrc b) left = (λ h. (out-means 16 true left h).0, λ l. out-is 16 true left l refl)
-part-is (Data k) left = (
-  λ h. let o = out-means 8 (ltb k 32) left h in (omega (arith, ltb-true k 32 o.1), o.0),
-  λ l. out-is 8 (ltb k 32) left l.1 (lt-ltb k 32 (omega (arith, l.0))),
+part_is Redirection left = (λ h. (out_means 8 true left h).0, λ l. out_is 8 true left l refl)
+part_is (RedirectionCrc b) left = (λ h. (out_means 16 true left h).0, λ l. out_is 16 true left l refl)
+part_is (Data k) left = (
+  λ h. let o = out_means 8 (ltb k 32) left h in (omega (arith, ltb-true k 32 o.1), o.0),
+  λ l. out_is 8 (ltb k 32) left l.1 (lt-ltb k 32 (omega (arith, l.0))),
 )
-part-is DataCrc left = (λ h. (out-means 16 true left h).0, λ l. out-is 16 true left l refl)
+part_is DataCrc left = (λ h. (out_means 16 true left h).0, λ l. out_is 16 true left l refl)
 
 stop_is : (n : ℕ) (cause : PageStop) → page_stop_in_range n cause ≡ page_stops n (number_of (page_stop cause)) (values_of (page_stop cause))
 unfolding page_stop_in_range is_page
@@ -77,20 +77,20 @@ stop_is n (Outside x) = beyond n x
 stop_is n Crc16 = refl
 stop_is n NoPresence = refl
 
-phase-is : (n : ℕ) (phase : Phase) → (page_phase_in_range n phase ≡ true) ↔ PagePhaseListed n phase
+phase_is : (n : ℕ) (phase : Phase) → (page_phase_in_range n phase ≡ true) ↔ PagePhaseListed n phase
 unfolding page_phase_in_range
-phase-is n Begin = (λ h. tt, λ l. refl)
-phase-is n Presence = (λ h. tt, λ l. refl)
-phase-is n (Command i) = (λ h. omega (arith, ltb-true i 32 h), λ l. lt-ltb i 32 (omega arith))
-phase-is n (Receive part left register) = part-is part left
-phase-is n Closing = (λ h. tt, λ l. refl)
-phase-is n Done = (λ h. tt, λ l. refl)
-phase-is n (Stopped cause) = (λ h. sym (stop_is n cause) ∙ h, λ l. stop_is n cause ∙ l)
+phase_is n Begin = (λ h. tt, λ l. refl)
+phase_is n Presence = (λ h. tt, λ l. refl)
+phase_is n (Command i) = (λ h. omega (arith, ltb-true i 32 h), λ l. lt-ltb i 32 (omega arith))
+phase_is n (Receive part left register) = part_is part left
+phase_is n Closing = (λ h. tt, λ l. refl)
+phase_is n Done = (λ h. tt, λ l. refl)
+phase_is n (Stopped cause) = (λ h. sym (stop_is n cause) ∙ h, λ l. stop_is n cause ∙ l)
 
-pub page-listed : (n : ℕ) (s : PageRead) → (page_in_range n s ≡ true) ↔ PageListed n s
-page-listed n s = (
-  λ h. let w = page-within n s h in record { page = w.page; hops = w.hops; phase = (phase-is n s.phase).0 w.phase },
-  λ l. in-range n s (record { page = l.page; hops = l.hops; phase = (phase-is n s.phase).1 l.phase; sized = refl }),
+pub page_listed : (n : ℕ) (s : PageRead) → (page_in_range n s ≡ true) ↔ PageListed n s
+page_listed n s = (
+  λ h. let w = page_within n s h in record { page = w.page; hops = w.hops; phase = (phase_is n s.phase).0 w.phase },
+  λ l. in_range_lem n s (record { page = l.page; hops = l.hops; phase = (phase_is n s.phase).1 l.phase; sized = refl }),
 )
 
 -- ---- calls
@@ -103,22 +103,22 @@ module _ (n : ℕ) where
     with_in : (phase : Phase) → Ranged phase → Within n size (page_with s phase)
     with_in phase h = record { page = w.page; hops = w.hops; phase = h; sized = w.sized }
 
-    hop-in : (x : ℕ) → x < n → Within n size (hopped n s x)
+    hop_in : (x : ℕ) → x < n → Within n size (hopped n s x)
     unfolding hopped page_phase_in_range page_stop_in_range
-    hop-in x l =
+    hop_in x l =
         either (Within n size) (ltb (s.hops + 1) n) _ _ (λ t. record { page = l; hops = ltb-true (s.hops + 1) n t; phase = refl; sized = w.sized }) (λ _. with_in _ refl)
 
-    follow-in : (b : ℕ) → Within n size (byte_followed n s b)
+    follow_in : (b : ℕ) → Within n size (byte_followed n s b)
     unfolding byte_followed page_named page_phase_in_range page_receive_in_range page_stop_in_range
-    follow-in b =
+    follow_in b =
         either (Within n size) (eqb b 255) _ _ (λ _. with_in _ refl)
-        (λ _. either (Within n size) (is_page n (named_by b)) _ _ (λ t. hop-in (named_by b) (page-true n (named_by b) t)) (λ f. with_in _ (ap not f)))
+        (λ _. either (Within n size) (is_page n (named_by b)) _ _ (λ t. hop_in (named_by b) (page_true n (named_by b) t)) (λ f. with_in _ (ap not f)))
 
-    part_in_lem : (part : Part) (v : ℕ) → Within n size (part_in n s part v)
-    unfolding part_in redirection_judged next_data data_judged page_phase_in_range page_receive_in_range page_stop_in_range
+    part_in_lem : (part : Part) (v : ℕ) → Within n size (part_in_lem n s part v)
+    unfolding part_in_lem redirection_judged next_data data_judged page_phase_in_range page_receive_in_range page_stop_in_range
     part_in_lem Redirection v = with_in _ refl
     part_in_lem (RedirectionCrc b) v =
-        either (Within n size) (eqb v (crc_word (read_command s.page.0 ++ (b.0 ∷ [])))) _ _ (λ _. follow-in b.0) (λ _. with_in _ refl)
+        either (Within n size) (eqb v (crc_word (read_command s.page.0 ++ (b.0 ∷ [])))) _ _ (λ _. follow_in b.0) (λ _. with_in _ refl)
     part_in_lem (Data k) v =
         record {
           page = w.page;
@@ -128,79 +128,79 @@ module _ (n : ℕ) where
         }
     part_in_lem DataCrc v = either (Within n size) (eqb v (crc_word s.bytes)) _ _ (λ _. with_in _ refl) (λ _. with_in _ refl)
 
-    next-in : (phase : Phase) (reply : Bool) → Ranged phase → Within n size (page_next_at n phase s reply)
+    next_in : (phase : Phase) (reply : Bool) → Ranged phase → Within n size (page_next_at n phase s reply)
     unfolding page_next_at page_presence after_extended_read page_closed page_bit_in page_phase_in_range page_receive_in_range page_stop_in_range
-    next-in Begin reply h = with_in _ refl
-    next-in Presence true h = with_in _ refl
-    next-in Presence false h = with_in _ refl
-    next-in (Command i) reply h =
+    next_in Begin reply h = with_in _ refl
+    next_in Presence true h = with_in _ refl
+    next_in Presence false h = with_in _ refl
+    next_in (Command i) reply h =
         with_in _ (either Ranged (ltb i 31) _ _ (λ t. lt-ltb (i + 1) 32 (omega (arith, ltb-true i 31 t))) (λ _. refl))
-    next-in (Receive part left v) reply h =
+    next_in (Receive part left v) reply h =
         either (Within n size) (ltb 1 left) _ _ (λ t. with_in _ (one_less (part_width part) (part_in_range part) left (ltb-true 1 left t) h)) (λ _. part_in_lem part (word_shift_in v reply))
-    next-in Closing true h = with_in _ refl
-    next-in Closing false h = with_in _ refl
-    next-in Done reply h = w
-    next-in (Stopped cause) reply h = w
+    next_in Closing true h = with_in _ refl
+    next_in Closing false h = with_in _ refl
+    next_in Done reply h = w
+    next_in (Stopped cause) reply h = w
 
   pub kept : {size : ℕ} (s : PageRead) (reply : Bool) → Within n size s → Within n size (page_next n s reply)
-  kept s reply w = next-in s w s.phase reply w.phase
+  kept s reply w = next_in s w s.phase reply w.phase
 
-  pub page-keeps : (s : PageRead) (reply : Bool) (buffer : List ℕ) → page_in_range n s ≡ true → page_in_range n (read_state n s reply buffer) ≡ true
+  pub page_keeps : (s : PageRead) (reply : Bool) (buffer : List ℕ) → page_in_range n s ≡ true → page_in_range n (read_state n s reply buffer) ≡ true
   unfolding read_state
-  page-keeps s reply buffer h =
+  page_keeps s reply buffer h =
       either (λ x. page_in_range n x ≡ true) (page_in_range n s) _ _
-      (λ _. either (λ x. page_in_range n x ≡ true) (eqb (length buffer) 32) _ _ (λ _. in-range n _ (kept s reply (page-within n s h))) (λ _. h)) (λ _. h)
+      (λ _. either (λ x. page_in_range n x ≡ true) (eqb (length buffer) 32) _ _ (λ _. in_range_lem n _ (kept s reply (page_within n s h))) (λ _. h)) (λ _. h)
 
-  pub started-in : 0 < n → (p : ℕ) → Within n 32 (start_state n p)
+  pub started_in : 0 < n → (p : ℕ) → Within n 32 (start_state n p)
   unfolding start_state page_begun refused_start page_phase_in_range page_stop_in_range
-  started-in l p =
-      either (Within n 32) (is_page n p) _ _ (λ t. record { page = page-true n p t; hops = l; phase = refl; sized = refl })
+  started_in l p =
+      either (Within n 32) (is_page n p) _ _ (λ t. record { page = page_true n p t; hops = l; phase = refl; sized = refl })
       (λ _. record { page = l; hops = l; phase = refl; sized = refl })
 
-  pub page-starts : 0 < n → (p : ℕ) → page_in_range n (start_state n p) ≡ true
-  page-starts l p = in-range n (start_state n p) (started-in l p)
+  pub page_starts : 0 < n → (p : ℕ) → page_in_range n (start_state n p) ≡ true
+  page_starts l p = in_range_lem n (start_state n p) (started_in l p)
 
-  pub start-ready : (p : ℕ) → p < n → start_answer n p ≡ accepted []
+  pub start_ready : (p : ℕ) → p < n → start_answer n p ≡ accepted []
   unfolding start_answer
-  start-ready p l = simp (is-page n p l)
+  start_ready p l = simp (is_page_lem n p l)
 
-  pub start-refused : (p : ℕ) → n ≤ p → start_answer n p ≡ refused 3 []
+  pub start_refused : (p : ℕ) → n ≤ p → start_answer n p ≡ refused 3 []
   unfolding start_answer is_page
-  start-refused p l = simp (le-ltb p n l)
+  start_refused p l = simp (le-ltb p n l)
 
   -- ---- number 2
 
-  pub page-outside : (s : PageRead) (reply : Bool) (buffer : List ℕ) → page_in_range n s ≡ false
+  pub page_outside : (s : PageRead) (reply : Bool) (buffer : List ℕ) → page_in_range n s ≡ false
       → (read_answer n s reply buffer ≡ refused 2 []) × (read_state n s reply buffer ≡ s) × (read_buffer n s reply buffer ≡ buffer)
   unfolding read_answer read_state read_buffer
-  page-outside s reply buffer h = (simp h, simp h, simp h)
+  page_outside s reply buffer h = (simp h, simp h, simp h)
 
-  pub other-buffer : (s : PageRead) (reply : Bool) (buffer : List ℕ) → page_in_range n s ≡ true → (length buffer ≡ 32 → ⊥)
+  pub other_buffer : (s : PageRead) (reply : Bool) (buffer : List ℕ) → page_in_range n s ≡ true → (length buffer ≡ 32 → ⊥)
       → (read_answer n s reply buffer ≡ refused 10 []) × (read_state n s reply buffer ≡ s) × (read_buffer n s reply buffer ≡ buffer)
   unfolding read_answer read_state read_buffer
-  other-buffer s reply buffer h l = let e = ne_eqb (length buffer) 32 l in (simp (h, e), simp (h, e), simp (h, e))
+  other_buffer s reply buffer h l = let e = ne_eqb (length buffer) 32 l in (simp (h, e), simp (h, e), simp (h, e))
 
-  not-2 : (phase : Phase) (page : Page) (hops : ℕ) (values : List ℕ) → read_outcome (page_phase_answer phase page hops) ≡ refused 2 values → ⊥
+  not_2 : (phase : Phase) (page : Page) (hops : ℕ) (values : List ℕ) → read_outcome (page_phase_answer phase page hops) ≡ refused 2 values → ⊥
   unfolding page_phase_answer
-  not-2 Begin page hops values e = let z : ◌≡◌ {A = ℕ} 0 1 = cc in omega arith
-  not-2 Presence page hops values e = let z : ◌≡◌ {A = ℕ} 0 1 = cc in omega arith
-  not-2 (Command i) page hops values e = let z : ◌≡◌ {A = ℕ} 0 1 = cc in omega arith
-  not-2 (Receive part left v) page hops values e = let z : ◌≡◌ {A = ℕ} 0 1 = cc in omega arith
-  not-2 Closing page hops values e = let z : ◌≡◌ {A = ℕ} 0 1 = cc in omega arith
-  not-2 Done page hops values e = let z : ◌≡◌ {A = ℕ} 0 1 = cc in omega arith
-  not-2 (Stopped PageNumber) page hops values e = let z : ◌≡◌ {A = ℕ} 3 2 = cc in omega arith
-  not-2 (Stopped Loop) page hops values e = let z : ◌≡◌ {A = ℕ} 4 2 = cc in omega arith
-  not-2 (Stopped (Outside x)) page hops values e = let z : ◌≡◌ {A = ℕ} 5 2 = cc in omega arith
-  not-2 (Stopped Crc16) page hops values e = let z : ◌≡◌ {A = ℕ} 6 2 = cc in omega arith
-  not-2 (Stopped NoPresence) page hops values e = let z : ◌≡◌ {A = ℕ} 13 2 = cc in omega arith
+  not_2 Begin page hops values e = let z : ◌≡◌ {A = ℕ} 0 1 = cc in omega arith
+  not_2 Presence page hops values e = let z : ◌≡◌ {A = ℕ} 0 1 = cc in omega arith
+  not_2 (Command i) page hops values e = let z : ◌≡◌ {A = ℕ} 0 1 = cc in omega arith
+  not_2 (Receive part left v) page hops values e = let z : ◌≡◌ {A = ℕ} 0 1 = cc in omega arith
+  not_2 Closing page hops values e = let z : ◌≡◌ {A = ℕ} 0 1 = cc in omega arith
+  not_2 Done page hops values e = let z : ◌≡◌ {A = ℕ} 0 1 = cc in omega arith
+  not_2 (Stopped PageNumber) page hops values e = let z : ◌≡◌ {A = ℕ} 3 2 = cc in omega arith
+  not_2 (Stopped Loop) page hops values e = let z : ◌≡◌ {A = ℕ} 4 2 = cc in omega arith
+  not_2 (Stopped (Outside x)) page hops values e = let z : ◌≡◌ {A = ℕ} 5 2 = cc in omega arith
+  not_2 (Stopped Crc16) page hops values e = let z : ◌≡◌ {A = ℕ} 6 2 = cc in omega arith
+  not_2 (Stopped NoPresence) page hops values e = let z : ◌≡◌ {A = ℕ} 13 2 = cc in omega arith
 
-  pub page-never-2 : (s : PageRead) (reply : Bool) (buffer values : List ℕ) → page_in_range n s ≡ true → read_answer n s reply buffer ≡ refused 2 values → ⊥
+  pub page_never_2 : (s : PageRead) (reply : Bool) (buffer values : List ℕ) → page_in_range n s ≡ true → read_answer n s reply buffer ≡ refused 2 values → ⊥
   unfolding read_answer
-  page-never-2 s reply buffer values h e = go (eqb (length buffer) 32) (simp h at e)
+  page_never_2 s reply buffer values h e = go (eqb (length buffer) 32) (simp h at e)
     where
       t : PageRead
       t = page_next n s reply
 
       go : (room : Bool) → judge room 10 (page_shown t) ≡ refused 2 values → ⊥
-      go true e = not-2 t.phase t.page t.hops values e
+      go true e = not_2 t.phase t.page t.hops values e
       go false e = let z : ◌≡◌ {A = ℕ} 10 2 = cc in omega arith

@@ -36,11 +36,11 @@ pub record Redirects (b : ℕ) : Type 0 where
 -- From page p after so many hops, with these replies the reader sends these events and then tells the verdict. The last list is the
 -- page that it hands over, under Final.
 pub data Heard (n : ℕ) : ℕ → ℕ → List Bool → List Event → Verdict → List ℕ → Type 0 where
-  at-final : {p hops : ℕ} (ignored : List Bool) (bytes : List ℕ) → length ignored ≡ 32 → length bytes ≡ 32 → Bytes bytes
+  at_final : {p hops : ℕ} (ignored : List Bool) (bytes : List ℕ) → length ignored ≡ 32 → length bytes ≡ 32 → Bytes bytes
       → Heard n p hops (visit_replies ignored p 255 ++ data_replies bytes) (visit_events p ++ data_events) (final p hops) bytes
-  at-outside : {p hops : ℕ} (ignored : List Bool) (b : ℕ) → length ignored ≡ 32 → Redirects b → n ≤ named_by b
+  at_outside : {p hops : ℕ} (ignored : List Bool) (b : ℕ) → length ignored ≡ 32 → Redirects b → n ≤ named_by b
       → Heard n p hops (visit_replies ignored p b) (visit_events p) (outside (named_by b)) []
-  at-loop : {p hops : ℕ} (ignored : List Bool) (b : ℕ) → length ignored ≡ 32 → Redirects b → named_by b < n → n ≤ hops + 1
+  at_loop : {p hops : ℕ} (ignored : List Bool) (b : ℕ) → length ignored ≡ 32 → Redirects b → named_by b < n → n ≤ hops + 1
       → Heard n p hops (visit_replies ignored p b) (visit_events p) loops []
   at_next : {p hops : ℕ} {replies : List Bool} {events : List Event} {v : Verdict} {bytes : List ℕ} (ignored : List Bool) (b : ℕ)
       → length ignored ≡ 32 → Redirects b → named_by b < n → hops + 1 < n → Heard n (named_by b) (hops + 1) replies events v bytes

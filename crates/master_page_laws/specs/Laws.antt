@@ -100,8 +100,8 @@ most_events n = 57 * n + 273
 
 pub record PageLaws (n : ℕ) : Type 1 where
   -- the start tells nothing of a page of the chip, and 3 of another number
-  pub start-ready : (p : ℕ) → p < n → start_answer n p ≡ accepted []
-  pub start-refused : (p : ℕ) → n ≤ p → start_answer n p ≡ refused 3 []
+  pub start_ready : (p : ℕ) → p < n → start_answer n p ≡ accepted []
+  pub start_refused : (p : ℕ) → n ≤ p → start_answer n p ≡ refused 3 []
   -- every start and every call keep to the ranges
   pub starts : (p : ℕ) → page_in_range n (start_state n p) ≡ true
   pub keeps : (s : PageRead) (reply : Bool) (buffer : List ℕ) → page_in_range n s ≡ true → page_in_range n (read_state n s reply buffer) ≡ true
@@ -110,27 +110,27 @@ pub record PageLaws (n : ℕ) : Type 1 where
   pub outside : (s : PageRead) (reply : Bool) (buffer : List ℕ) → page_in_range n s ≡ false
       → (read_answer n s reply buffer ≡ refused 2 []) × (read_state n s reply buffer ≡ s) × (read_buffer n s reply buffer ≡ buffer)
   -- 10 is told of another buffer than one of 32 bytes, and nothing changes
-  pub other-buffer : (s : PageRead) (reply : Bool) (buffer : List ℕ) → page_in_range n s ≡ true → (length buffer ≡ 32 → ⊥)
+  pub other_buffer : (s : PageRead) (reply : Bool) (buffer : List ℕ) → page_in_range n s ≡ true → (length buffer ≡ 32 → ⊥)
       → (read_answer n s reply buffer ≡ refused 10 []) × (read_state n s reply buffer ≡ s) × (read_buffer n s reply buffer ≡ buffer)
-  pub never-2 : (s : PageRead) (reply : Bool) (buffer values : List ℕ) → page_in_range n s ≡ true → read_answer n s reply buffer ≡ refused 2 values → ⊥
+  pub never_2 : (s : PageRead) (reply : Bool) (buffer values : List ℕ) → page_in_range n s ≡ true → read_answer n s reply buffer ≡ refused 2 values → ⊥
   -- whatever the page asked for, the replies and the buffers lent, the calls give back what the script gives
-  pub plays-lent : (p : ℕ) (calls : List PageCall) → page_given_to n (start_state n p) calls ≡ play_lent (page_script n p) calls
+  pub plays_lent : (p : ℕ) (calls : List PageCall) → page_given_to n (start_state n p) calls ≡ play_lent (page_script n p) calls
   -- with one buffer of 32 bytes: the answers, and the buffer after them
   pub plays : (p : ℕ) (lent : List ℕ) (replies : List Bool) → length lent ≡ 32 → page_answers_to n (page_started n p lent) replies ≡ play (page_script n p) replies
   pub leaves : (p : ℕ) (lent : List ℕ) (replies : List Bool) → length lent ≡ 32 → (page_after n (page_started n p lent) replies).buffer ≡ left_by (λ first. page_script n p) replies lent
   -- so, whatever the replies, never more events than 57 for each page and 273, 3,921 with 64 pages ..
-  pub visit-counted : (p : ℕ) → length (visit_events p) ≡ 57
-  pub page-counted : length data_events ≡ 273
+  pub visit_counted : (p : ℕ) → length (visit_events p) ≡ 57
+  pub page_counted : length data_events ≡ 273
   pub at_most : (p : ℕ) (lent : List ℕ) (replies : List Bool) → length lent ≡ 32 → length (events_of (page_answers_to n (page_started n p lent) replies)) ≤ most_events n
   -- .. a verdict is told only where the replies agree with it ..
   pub agreed : (p : ℕ) (lent : List ℕ) (first : Bool) (replies : List Bool) (v : Verdict) (before later : List (Outcome Next)) → p < n → length lent ≡ 32
       → page_answers_to n (page_started n p lent) (first ∷ replies) ≡ before ++ (verdict_outcome v ∷ later)
       → PageAgreed n p v lent replies (page_answers_to n (page_started n p lent) (first ∷ replies)) (page_after n (page_started n p lent) (first ∷ replies)).buffer
   -- .. and no image changes that the events reach
-  pub image-stays : (c : Chip) (p : ℕ) (lent : List ℕ) (replies : List Bool) → length lent ≡ 32
+  pub image_stays : (c : Chip) (p : ℕ) (lent : List ℕ) (replies : List Bool) → length lent ≡ 32
       → (run n c (events_of (page_answers_to n (page_started n p lent) replies))).image ≡ c.image
   -- joined to any bus, it does what the script does there
-  pub plays-on : {B : Type 0} (react : B → Event → B) (line : B → Event → Bool) (p : ℕ) (lent : List ℕ) (b : B) (replies : List Bool) → length lent ≡ 32
+  pub plays_on : {B : Type 0} (react : B → Event → B) (line : B → Event → Bool) (p : ℕ) (lent : List ℕ) (b : B) (replies : List Bool) → length lent ≡ 32
       → Good react line out_of b (page_answers_to n (page_started n p lent) replies) replies
       → page_answers_to n (page_started n p lent) replies ≡ played_telling react line (page_script n p) b (length replies)
   -- joined to a chip, it tells the verdict of the redirection chain

@@ -22,14 +22,14 @@ use Rattle.bus_events.specs.Slots.{slots}
 use Rattle.master_plan.specs.Kind.{selecting, head_count, crc_count, byte_count, write_count}
 use Rattle.master_plan.specs.Places.{bitmap_address, clearing, page_address, redirection_address, naming, address_of, head_of}
 use Rattle.master_plan.specs.Plan.{step, reset_step, pulse_step, freely, send_steps, read_steps, crc_steps, back_steps, byte_steps, bytes_steps, head_steps, write_steps, plan_of}
-use Rattle.master_plan.specs.Code.At.{send_at, crc_at, back_at, byte_at, head_byte, head_at, register_at, number_at, write_at, part_at}
+use Rattle.master_plan.specs.Code.At.{send_at_lem, crc_at, back_at, byte_at, head_byte, head_at_lem, register_at, number_at, write_at, part_at}
 use Rattle.master_plan.specs.declared.Part.{Part}
 use Rattle.master_plan.specs.declared.Part.TheVariants.{Bitmap, NewPage, Link, Closing}
 use Rattle.master_plan.specs.declared.Step.{Step}
 use Rattle.master_plan.specs.declared.Wanted.{Wanted}
 use Rattle.master_plan.specs.declared.Wanted.TheVariants.{Anything, Bit, LastCrcBit, LastBackBit}
 use Rattle.master_plan.specs.declared.kind.UpdateKind.{UpdateKind}
-use Rattle.master_plan.proofs.Lengths.{send-length, crc-length, byte-length, head-length, write-length}
+use Rattle.master_plan.proofs.Lengths.{send_length, crc_length, byte_length, head_length, write_length}
 
 abbrev at : List Step → ℕ → Step
 at ss i = get_or ss i reset_step
@@ -53,52 +53,52 @@ in_either xs ys n i a b e f g = go (dec_lt i n)
 
 -- ---- bits that are sent, and bits that are read
 
-bit-half : (v i : ℕ) → bit_at (v / 2) i ≡ bit_at v (suc i)
-bit-half v i = ap (λ (x : ℕ). eqb (x % 2) 1) (div-div-eq-div-mul v 2 (2 ^ i) ∙ ap (λ (x : ℕ). v / x) (sym (pow-succ' 2 i)))
+bit_half : (v i : ℕ) → bit_at (v / 2) i ≡ bit_at v (suc i)
+bit_half v i = ap (λ (x : ℕ). eqb (x % 2) 1) (div-div-eq-div-mul v 2 (2 ^ i) ∙ ap (λ (x : ℕ). v / x) (sym (pow-succ' 2 i)))
 
-bits-at : (k v i : ℕ) → i < k → step (slot (bit_at v i)) Anything ≡ at (freely (slots (bits_of k v))) i
+bits_at_lem : (k v i : ℕ) → i < k → step (slot (bit_at v i)) Anything ≡ at (freely (slots (bits_of k v))) i
 unfolding bits_of
-bits-at zero v i lt = let z : ⊥ = omega arith in absurd z
-bits-at (suc k) v zero lt = ap (λ (x : ℕ). step (slot (odd x)) Anything) (div-one v)
-bits-at (suc k) v (suc i) lt = ap (λ (b : Bool). step (slot b) Anything) (sym (bit-half v i)) ∙ bits-at k (v / 2) i (omega arith)
+bits_at_lem zero v i lt = let z : ⊥ = omega arith in absurd z
+bits_at_lem (suc k) v zero lt = ap (λ (x : ℕ). step (slot (odd x)) Anything) (div-one v)
+bits_at_lem (suc k) v (suc i) lt = ap (λ (b : Bool). step (slot b) Anything) (sym (bit_half v i)) ∙ bits_at_lem k (v / 2) i (omega arith)
 
-freely-append : (xs ys : List Bool) → freely (slots (xs ++ ys)) ≡ freely (slots xs) ++ freely (slots ys)
-freely-append [] ys = refl
-freely-append (x ∷ xs) ys = ap (λ (l : List Step). step (slot x) Anything ∷ l) (freely-append xs ys)
+freely_append : (xs ys : List Bool) → freely (slots (xs ++ ys)) ≡ freely (slots xs) ++ freely (slots ys)
+freely_append [] ys = refl
+freely_append (x ∷ xs) ys = ap (λ (l : List Step). step (slot x) Anything ∷ l) (freely_append xs ys)
 
-free-length : (k v : ℕ) → length (freely (slots (bits_of k v))) ≡ k
+free_length : (k v : ℕ) → length (freely (slots (bits_of k v))) ≡ k
 unfolding bits_of
-free-length zero v = refl
-free-length (suc k) v = ap suc (free-length k (v / 2))
+free_length zero v = refl
+free_length (suc k) v = ap suc (free_length k (v / 2))
 
 -- bit i modulo 8 of byte i divided by 8
-send_at_lem : (bytes : List ℕ) (i : ℕ) → i < 8 * length bytes → send_at (get_or bytes (i / 8) 0) i ≡ at (send_steps bytes) i
-unfolding send_at send_steps bits_of_bytes
+send_at_lem : (bytes : List ℕ) (i : ℕ) → i < 8 * length bytes → send_at_lem (get_or bytes (i / 8) 0) i ≡ at (send_steps bytes) i
+unfolding send_at_lem send_steps bits_of_bytes
 send_at_lem [] i lt = let z : ⊥ = omega arith in absurd z
 send_at_lem (b ∷ bs) i lt =
-    go (λ le. send_at_lem bs (i - 8) (omega arith)) (dec_lt i 8) ∙ ap (λ (l : List Step). at l i) (sym (freely-append (bits_of 8 b) (bits_of_bytes bs)))
+    go (λ le. send_at_lem bs (i - 8) (omega arith)) (dec_lt i 8) ∙ ap (λ (l : List Step). at l i) (sym (freely_append (bits_of 8 b) (bits_of_bytes bs)))
   where
-    go : (8 ≤ i → send_at (get_or bs ((i - 8) / 8) 0) (i - 8) ≡ at (freely (slots (bits_of_bytes bs))) (i - 8)) → Dec (i < 8)
-        → send_at (get_or (b ∷ bs) (i / 8) 0) i ≡ at (freely (slots (bits_of 8 b)) ++ freely (slots (bits_of_bytes bs))) i
+    go : (8 ≤ i → send_at_lem (get_or bs ((i - 8) / 8) 0) (i - 8) ≡ at (freely (slots (bits_of_bytes bs))) (i - 8)) → Dec (i < 8)
+        → send_at_lem (get_or (b ∷ bs) (i / 8) 0) i ≡ at (freely (slots (bits_of 8 b)) ++ freely (slots (bits_of_bytes bs))) i
     go ih (yes y) =
         let q : i / 8 ≡ 0 = omega arith in
         let r : i % 8 ≡ i = omega arith in
-        rw (q, r) (bits-at 8 b i y) ∙ sym (at_left (freely (slots (bits_of 8 b))) _ 8 i (free-length 8 b) y)
+        rw (q, r) (bits_at_lem 8 b i y) ∙ sym (at_left (freely (slots (bits_of 8 b))) _ 8 i (free_length 8 b) y)
     go ih (no z) =
         let q : i / 8 ≡ suc ((i - 8) / 8) = omega arith in
         let r : i % 8 ≡ (i - 8) % 8 = omega arith in
-        rw (q, r) (ih (omega arith)) ∙ sym (at_right (freely (slots (bits_of 8 b))) _ 8 i (free-length 8 b) (omega arith))
+        rw (q, r) (ih (omega arith)) ∙ sym (at_right (freely (slots (bits_of 8 b))) _ 8 i (free_length 8 b) (omega arith))
 
-read-early : (complete : Bool → Wanted) (n v i : ℕ) → i < n → at (read_steps complete (suc n) v) i ≡ step read_slot (Bit (bit_at v i))
+read_early : (complete : Bool → Wanted) (n v i : ℕ) → i < n → at (read_steps complete (suc n) v) i ≡ step read_slot (Bit (bit_at v i))
 unfolding read_steps
-read-early complete zero v i lt = let z : ⊥ = omega arith in absurd z
-read-early complete (suc n) v zero lt = ap (λ (x : ℕ). step read_slot (Bit (odd x))) (sym (div-one v))
-read-early complete (suc n) v (suc i) lt = read-early complete n (v / 2) i (omega arith) ∙ ap (λ (b : Bool). step read_slot (Bit b)) (bit-half v i)
+read_early complete zero v i lt = let z : ⊥ = omega arith in absurd z
+read_early complete (suc n) v zero lt = ap (λ (x : ℕ). step read_slot (Bit (odd x))) (sym (div-one v))
+read_early complete (suc n) v (suc i) lt = read_early complete n (v / 2) i (omega arith) ∙ ap (λ (b : Bool). step read_slot (Bit b)) (bit_half v i)
 
-read-last : (complete : Bool → Wanted) (n v : ℕ) → at (read_steps complete (suc n) v) n ≡ step read_slot (complete (bit_at v n))
+read_last : (complete : Bool → Wanted) (n v : ℕ) → at (read_steps complete (suc n) v) n ≡ step read_slot (complete (bit_at v n))
 unfolding read_steps
-read-last complete zero v = ap (λ (x : ℕ). step read_slot (complete (odd x))) (sym (div-one v))
-read-last complete (suc n) v = read-last complete n (v / 2) ∙ ap (λ (b : Bool). step read_slot (complete b)) (bit-half v n)
+read_last complete zero v = ap (λ (x : ℕ). step read_slot (complete (odd x))) (sym (div-one v))
+read_last complete (suc n) v = read_last complete n (v / 2) ∙ ap (λ (b : Bool). step read_slot (complete b)) (bit_half v n)
 
 -- a number of m + 1 bits, as the code finds its bit i
 read_at : (complete : Bool → Wanted) (m v i : ℕ) → i < suc m
@@ -107,37 +107,37 @@ read_at complete m v i lt = go (dec_lt i m)
   where
     go : Dec (i < m)
         → cond (ltb i m) (step read_slot (Bit (bit_at v (i % suc m)))) (step read_slot (complete (bit_at v m))) ≡ at (read_steps complete (suc m) v) i
-    go (yes y) = simp (lt-ltb i m y, mod-eq_of_lt {n = i} {m = suc m} lt) (sym (read-early complete m v i y))
-    go (no z) = let e : i ≡ m = omega arith in simp (le-ltb i m (omega arith)) (rw e (sym (read-last complete m v)))
+    go (yes y) = simp (lt-ltb i m y, mod-eq_of_lt {n = i} {m = suc m} lt) (sym (read_early complete m v i y))
+    go (no z) = let e : i ≡ m = omega arith in simp (le-ltb i m (omega arith)) (rw e (sym (read_last complete m v)))
 
 -- ---- a byte, and bytes
 
-crc-at : (mode : WriteMode) (crc i : ℕ) → i < crc_count mode → crc_at crc i ≡ at (crc_steps mode crc) i
+crc_at_lem : (mode : WriteMode) (crc i : ℕ) → i < crc_count mode → crc_at crc i ≡ at (crc_steps mode crc) i
 unfolding crc_at crc_steps
-crc-at Ordinary crc i lt = read_at LastCrcBit 15 crc i lt
-crc-at Quick crc i lt = let z : ⊥ = omega arith in absurd z
+crc_at_lem Ordinary crc i lt = read_at LastCrcBit 15 crc i lt
+crc_at_lem Quick crc i lt = let z : ⊥ = omega arith in absurd z
 
 one_at : (s : Step) (i : ℕ) → i < 1 → s ≡ at (s ∷ []) i
 one_at s zero lt = refl
 one_at s (suc i) lt = let z : ⊥ = omega arith in absurd z
 
-byte-at : (mode : WriteMode) (register old byte i : ℕ) → i < byte_count mode → byte_at mode register old byte i ≡ at (byte_steps mode register old byte) i
+byte_at_lem : (mode : WriteMode) (register old byte i : ℕ) → i < byte_count mode → byte_at mode register old byte i ≡ at (byte_steps mode register old byte) i
 unfolding byte_at byte_steps back_at back_steps
-byte-at mode register old byte i lt =
-    in_either (send_steps (byte ∷ [])) _ 8 i _ _ (send-length (byte ∷ [])) (λ y. let q : i / 8 ≡ 0 = omega arith in rw q at (send_at_lem (byte ∷ []) i y))
-    (λ le. in_either (crc_steps mode _) _ (crc_count mode) (i - 8) _ _ (crc-length mode _) (crc-at mode _ (i - 8))
+byte_at_lem mode register old byte i lt =
+    in_either (send_steps (byte ∷ [])) _ 8 i _ _ (send_length (byte ∷ [])) (λ y. let q : i / 8 ≡ 0 = omega arith in rw q at (send_at_lem (byte ∷ []) i y))
+    (λ le. in_either (crc_steps mode _) _ (crc_count mode) (i - 8) _ _ (crc_length mode _) (crc_at_lem mode _ (i - 8))
     (λ later. in_either (pulse_step ∷ []) (read_steps LastBackBit 8 (bit_and old byte)) 1 (i - 8 - crc_count mode) _ _ refl (one_at pulse_step _)
     (λ last. read_at LastBackBit 7 (bit_and old byte) (i - 8 - crc_count mode - 1) (omega arith))))
 
-register-next : (a crc j : ℕ) → register_at a crc (suc j) ≡ register_at (a + 1) (a + 1) j
+register_next : (a crc j : ℕ) → register_at a crc (suc j) ≡ register_at (a + 1) (a + 1) j
 unfolding register_at
-register-next a crc zero = refl
-register-next a crc (suc j) = simp (le-ltb (suc (suc j)) 1 (omega arith), le-ltb (suc j) 1 (omega arith)) (omega arith)
+register_next a crc zero = refl
+register_next a crc (suc j) = simp (le-ltb (suc (suc j)) 1 (omega arith), le-ltb (suc j) 1 (omega arith)) (omega arith)
 
 -- the number of an event's byte and its place there: in the first byte, or as without the first byte
-pub in-first : (mode : WriteMode) (i : ℕ) → i < byte_count mode → (i / byte_count mode ≡ 0) × (i % byte_count mode ≡ i)
-in-first Ordinary i lt = omega arith
-in-first Quick i lt = omega arith
+pub in_first : (mode : WriteMode) (i : ℕ) → i < byte_count mode → (i / byte_count mode ≡ 0) × (i % byte_count mode ≡ i)
+in_first Ordinary i lt = omega arith
+in_first Quick i lt = omega arith
 
 past_first : (mode : WriteMode) (i : ℕ) → byte_count mode ≤ i
     → (i / byte_count mode ≡ suc ((i - byte_count mode) / byte_count mode)) × (i % byte_count mode ≡ (i - byte_count mode) % byte_count mode)
@@ -153,42 +153,42 @@ number_small Quick i lt = omega arith
 abbrev bytes_at : WriteMode → ℕ → ℕ → ℕ → List ℕ → ℕ → Step
 bytes_at mode a crc old ds i = byte_at mode (register_at a crc (i / byte_count mode)) old (get_or ds (i / byte_count mode) 0) (i % byte_count mode)
 
-bytes-at : (mode : WriteMode) (ds : List ℕ) (a crc old i : ℕ) → i < byte_count mode * length ds
+bytes_at_lem : (mode : WriteMode) (ds : List ℕ) (a crc old i : ℕ) → i < byte_count mode * length ds
     → bytes_at mode a crc old ds i ≡ at (bytes_steps mode a crc old ds) i
 unfolding bytes_steps
-bytes-at mode [] a crc old i lt = let z : ⊥ = omega arith in absurd z
-bytes-at mode (d ∷ ds) a crc old i lt =
-    go (λ le. bytes-at mode ds (a + 1) (a + 1) old (i - byte_count mode) (omega arith)) (dec_lt i (byte_count mode))
+bytes_at_lem mode [] a crc old i lt = let z : ⊥ = omega arith in absurd z
+bytes_at_lem mode (d ∷ ds) a crc old i lt =
+    go (λ le. bytes_at_lem mode ds (a + 1) (a + 1) old (i - byte_count mode) (omega arith)) (dec_lt i (byte_count mode))
   where
     go : (byte_count mode ≤ i → bytes_at mode (a + 1) (a + 1) old ds (i - byte_count mode) ≡ at (bytes_steps mode (a + 1) (a + 1) old ds) (i - byte_count mode))
         → Dec (i < byte_count mode) → bytes_at mode a crc old (d ∷ ds) i ≡ at (byte_steps mode crc old d ++ bytes_steps mode (a + 1) (a + 1) old ds) i
     go ih (yes y) =
-        rw ((in-first mode i y).0, (in-first mode i y).1) (unfold register_at in byte-at mode crc old d i y)
-        ∙ sym (at_left (byte_steps mode crc old d) _ (byte_count mode) i (byte-length mode crc old d) y)
+        rw ((in_first mode i y).0, (in_first mode i y).1) (unfold register_at in byte_at_lem mode crc old d i y)
+        ∙ sym (at_left (byte_steps mode crc old d) _ (byte_count mode) i (byte_length mode crc old d) y)
     go ih (no z) =
         let le : byte_count mode ≤ i = omega arith in
-        rw ((past_first mode i le).0, (past_first mode i le).1, register-next) (ih le)
-        ∙ sym (at_right (byte_steps mode crc old d) _ (byte_count mode) i (byte-length mode crc old d) le)
+        rw ((past_first mode i le).0, (past_first mode i le).1, register_next) (ih le)
+        ∙ sym (at_right (byte_steps mode crc old d) _ (byte_count mode) i (byte_length mode crc old d) le)
 
 -- ---- a write, and the plan
 
 module _ (kind : UpdateKind) where
-  head_at_lem : (target : Target) (i : ℕ) → i < head_count kind → head_at kind target i ≡ at (head_steps kind target) i
-  unfolding head_at head_byte head_steps
+  head_at_lem : (target : Target) (i : ℕ) → i < head_count kind → head_at_lem kind target i ≡ at (head_steps kind target) i
+  unfolding head_at_lem head_byte head_steps
   head_at_lem target i lt =
       in_either (reset_step ∷ []) (send_steps (selecting kind.selection ++ head_of kind.mode target)) 1 i _ _ refl (one_at reset_step i)
       (λ le. send_at_lem (selecting kind.selection ++ head_of kind.mode target) (i - 1)
       (omega (arith, length-append (selecting kind.selection) (head_of kind.mode target))))
 
-  write-at : (target : Target) (old : ℕ) (ds : List ℕ) (i : ℕ) → i < write_count kind (length ds)
+  write_at_lem : (target : Target) (old : ℕ) (ds : List ℕ) (i : ℕ) → i < write_count kind (length ds)
       → write_at kind target old (get_or ds (number_at kind i) 0) i ≡ at (write_steps kind target old ds) i
   unfolding write_at write_steps
-  write-at target old ds i lt =
-      in_either (head_steps kind target) _ (head_count kind) i _ _ (head-length kind target) (head_at_lem target i)
-      (λ le. bytes-at kind.mode ds (address_of target) (crc16_of (head_of kind.mode target)) old (i - head_count kind) (omega arith))
+  write_at_lem target old ds i lt =
+      in_either (head_steps kind target) _ (head_count kind) i _ _ (head_length kind target) (head_at_lem target i)
+      (λ le. bytes_at_lem kind.mode ds (address_of target) (crc16_of (head_of kind.mode target)) old (i - head_count kind) (omega arith))
 
-  one-byte-at : (target : Target) (old d i : ℕ) → i < write_count kind 1 → write_at kind target old d i ≡ at (write_steps kind target old (d ∷ [])) i
-  one-byte-at target old d i lt = rw (in-first kind.mode (i - head_count kind) (omega arith)).0 at (write-at target old (d ∷ []) i lt)
+  one_byte_at : (target : Target) (old d i : ℕ) → i < write_count kind 1 → write_at kind target old d i ≡ at (write_steps kind target old (d ∷ [])) i
+  one_byte_at target old d i lt = rw (in_first kind.mode (i - head_count kind) (omega arith)).0 at (write_at_lem target old (d ∷ []) i lt)
 
   closing_at : (i : ℕ) → reset_step ≡ at (reset_step ∷ []) i
   closing_at zero = refl
@@ -204,13 +204,13 @@ module _ (kind : UpdateKind) where
   unfolding plan_of
   in_parts l t used new k long =
       in_either (write_steps kind (Status (bitmap_address t)) used (clearing t ∷ [])) _ (write_count kind 1) k _ _
-      (write-length kind (Status (bitmap_address t)) used (clearing t ∷ [])) (one-byte-at (Status (bitmap_address t)) used (clearing t) k)
+      (write_length kind (Status (bitmap_address t)) used (clearing t ∷ [])) (one_byte_at (Status (bitmap_address t)) used (clearing t) k)
       (λ _. in_either (write_steps kind (Data (page_address t)) 255 new) _ (write_count kind 32) (k - write_count kind 1) _ _
-      (write-length kind (Data (page_address t)) 255 new ∙ rw long)
-      (λ lt. write-at (Data (page_address t)) 255 new (k - write_count kind 1) (rw long lt))
+      (write_length kind (Data (page_address t)) 255 new ∙ rw long)
+      (λ lt. write_at_lem (Data (page_address t)) 255 new (k - write_count kind 1) (rw long lt))
       (λ _. in_either (write_steps kind (Status (redirection_address l)) 255 ((naming t).0 ∷ [])) _ (write_count kind 1) (k - write_count kind 1 - write_count kind 32) _ _
-      (write-length kind (Status (redirection_address l)) 255 ((naming t).0 ∷ []))
-      (one-byte-at (Status (redirection_address l)) 255 (naming t).0 (k - write_count kind 1 - write_count kind 32))
+      (write_length kind (Status (redirection_address l)) 255 ((naming t).0 ∷ []))
+      (one_byte_at (Status (redirection_address l)) 255 (naming t).0 (k - write_count kind 1 - write_count kind 32))
       (λ _. closing_at (k - write_count kind 1 - write_count kind 32 - write_count kind 1))))
 
   -- the step of a part
@@ -220,10 +220,10 @@ module _ (kind : UpdateKind) where
   step_in (Link i) l t used new = write_at kind (Status (redirection_address l)) 255 (naming t).0 i
   step_in Closing l t used new = reset_step
 
-  pub plan-at : (l t used : ℕ) (new : List ℕ) (k : ℕ) → length new ≡ 32 → {part : Part} → part ≡ part_at kind k
+  pub plan_at : (l t used : ℕ) (new : List ℕ) (k : ℕ) → length new ≡ 32 → {part : Part} → part ≡ part_at kind k
       → step_in part l t used new ≡ get_or (plan_of kind l t used new) k reset_step
   unfolding part_at
-  plan-at l t used new k long e =
+  plan_at l t used new k long e =
       ap (λ (part : Part). step_in part l t used new) e
       ∙ go (ltb k (write_count kind 1)) (ltb (k - write_count kind 1) (write_count kind 32))
       (ltb (k - write_count kind 1 - write_count kind 32) (write_count kind 1))

@@ -35,40 +35,40 @@ any_append (x ∷ xs) ys = go (judges_crc x.wanted) (any_append xs ys)
     go true ih = refl
     go false ih = ih
 
-either-false : (a b : Bool) → cond a true b ≡ false → (a ≡ false) × (b ≡ false)
-either-false true b h = (h, cc)
-either-false false b h = (refl, h)
+either_false : (a b : Bool) → cond a true b ≡ false → (a ≡ false) × (b ≡ false)
+either_false true b h = (h, cc)
+either_false false b h = (refl, h)
 
 -- past its end a list gives reset_step
-none-at : (ss : List Step) (k : ℕ) → any_crc ss ≡ false → judges_crc (get_or ss k reset_step).wanted ≡ false
-none-at [] k h = refl
-none-at (s ∷ ss) zero h = (either-false (judges_crc s.wanted) (any_crc ss) h).0
-none-at (s ∷ ss) (suc k) h = none-at ss k (either-false (judges_crc s.wanted) (any_crc ss) h).1
+none_at : (ss : List Step) (k : ℕ) → any_crc ss ≡ false → judges_crc (get_or ss k reset_step).wanted ≡ false
+none_at [] k h = refl
+none_at (s ∷ ss) zero h = (either_false (judges_crc s.wanted) (any_crc ss) h).0
+none_at (s ∷ ss) (suc k) h = none_at ss k (either_false (judges_crc s.wanted) (any_crc ss) h).1
 
 none_free : (es : List Event) → any_crc (freely es) ≡ false
 none_free [] = refl
 none_free (e ∷ es) = none_free es
 
-none-sent : (bytes : List ℕ) → any_crc (send_steps bytes) ≡ false
+none_sent : (bytes : List ℕ) → any_crc (send_steps bytes) ≡ false
 unfolding send_steps
-none-sent bytes = none_free (sending bytes)
+none_sent bytes = none_free (sending bytes)
 
-none-back : (n v : ℕ) → any_crc (read_steps LastBackBit n v) ≡ false
+none_back : (n v : ℕ) → any_crc (read_steps LastBackBit n v) ≡ false
 unfolding read_steps
-none-back zero v = refl
-none-back (suc zero) v = refl
-none-back (suc (suc n)) v = none-back (suc n) (v / 2)
+none_back zero v = refl
+none_back (suc zero) v = refl
+none_back (suc (suc n)) v = none_back (suc n) (v / 2)
 
-none-bytes : (bytes : List ℕ) (a register old : ℕ) → any_crc (bytes_steps Quick a register old bytes) ≡ false
+none_bytes : (bytes : List ℕ) (a register old : ℕ) → any_crc (bytes_steps Quick a register old bytes) ≡ false
 unfolding bytes_steps byte_steps crc_steps back_steps
-none-bytes [] a register old = refl
-none-bytes (byte ∷ bytes) a register old = simp (any_append, none-sent, none-back, none-bytes bytes)
+none_bytes [] a register old = refl
+none_bytes (byte ∷ bytes) a register old = simp (any_append, none_sent, none_back, none_bytes bytes)
 
 module _ (kind : UpdateKind) (quick : kind.mode ≡ Quick) where
-  none-write : (target : Target) (old : ℕ) (bytes : List ℕ) → any_crc (write_steps kind target old bytes) ≡ false
+  none_write : (target : Target) (old : ℕ) (bytes : List ℕ) → any_crc (write_steps kind target old bytes) ≡ false
   unfolding write_steps head_steps
-  none-write target old bytes = simp (any_append, none-sent) (rw quick (none-bytes bytes _ _ old))
+  none_write target old bytes = simp (any_append, none_sent) (rw quick (none_bytes bytes _ _ old))
 
-  pub no-crc : (l t used : ℕ) (new : List ℕ) (k : ℕ) → judges_crc (get_or (plan_of kind l t used new) k reset_step).wanted ≡ false
+  pub no_crc : (l t used : ℕ) (new : List ℕ) (k : ℕ) → judges_crc (get_or (plan_of kind l t used new) k reset_step).wanted ≡ false
   unfolding plan_of
-  no-crc l t used new k = none-at (plan_of kind l t used new) k (simp (any_append, none-write))
+  no_crc l t used new k = none_at (plan_of kind l t used new) k (simp (any_append, none_write))

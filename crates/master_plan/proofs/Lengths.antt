@@ -21,12 +21,12 @@ use Rattle.master_plan.specs.declared.kind.UpdateKind.{UpdateKind}
 pub counts : Counts
 counts =
     record {
-      ordinary-writes = (refl, refl);
-      ordinary-total = (refl, refl);
-      ordinary-shown = refl;
-      quick-writes = (refl, refl);
-      quick-total = (refl, refl);
-      quick-shown = refl;
+      ordinary_writes = (refl, refl);
+      ordinary_total = (refl, refl);
+      ordinary_shown = refl;
+      quick_writes = (refl, refl);
+      quick_total = (refl, refl);
+      quick_shown = refl;
     }
 
 -- a selection takes nine bytes at most, and a CRC sixteen slots
@@ -37,10 +37,10 @@ pub short : (mode : WriteMode) → crc_count mode ≤ 16
 short Ordinary = lit≤ tt
 short Quick = lit≤ tt
 
-pub send-length : (bytes : List ℕ) → length (send_steps bytes) ≡ 8 * length bytes
+pub send_length : (bytes : List ℕ) → length (send_steps bytes) ≡ 8 * length bytes
 unfolding send_steps bits_of bits_of_bytes
-send-length [] = refl
-send-length (b ∷ bs) = omega (arith, send-length bs)
+send_length [] = refl
+send_length (b ∷ bs) = omega (arith, send_length bs)
 
 pub read_length : (complete : Bool → Wanted) (n v : ℕ) → length (read_steps complete n v) ≡ n
 unfolding read_steps
@@ -48,34 +48,34 @@ read_length complete zero v = refl
 read_length complete (suc zero) v = refl
 read_length complete (suc (suc n)) v = ap suc (read_length complete (suc n) (v / 2))
 
-pub crc-length : (mode : WriteMode) (crc : ℕ) → length (crc_steps mode crc) ≡ crc_count mode
+pub crc_length : (mode : WriteMode) (crc : ℕ) → length (crc_steps mode crc) ≡ crc_count mode
 unfolding crc_steps
-crc-length Ordinary crc = read_length _ 16 crc
-crc-length Quick crc = refl
+crc_length Ordinary crc = read_length _ 16 crc
+crc_length Quick crc = refl
 
-pub byte-length : (mode : WriteMode) (register old byte : ℕ) → length (byte_steps mode register old byte) ≡ byte_count mode
+pub byte_length : (mode : WriteMode) (register old byte : ℕ) → length (byte_steps mode register old byte) ≡ byte_count mode
 unfolding byte_steps back_steps
-byte-length mode register old byte = simp (length-append, send-length, crc-length, read_length) (omega arith)
+byte_length mode register old byte = simp (length-append, send_length, crc_length, read_length) (omega arith)
 
-pub written-length : (mode : WriteMode) (bytes : List ℕ) (a register old : ℕ) → length (bytes_steps mode a register old bytes) ≡ byte_count mode * length bytes
+pub written_length : (mode : WriteMode) (bytes : List ℕ) (a register old : ℕ) → length (bytes_steps mode a register old bytes) ≡ byte_count mode * length bytes
 unfolding bytes_steps
-written-length mode [] a register old = omega arith
-written-length mode (byte ∷ bytes) a register old = simp (length-append, byte-length, written-length mode bytes) (omega arith)
+written_length mode [] a register old = omega arith
+written_length mode (byte ∷ bytes) a register old = simp (length-append, byte_length, written_length mode bytes) (omega arith)
 
 module _ (kind : UpdateKind) where
-  pub head-length : (target : Target) → length (head_steps kind target) ≡ head_count kind
+  pub head_length : (target : Target) → length (head_steps kind target) ≡ head_count kind
   unfolding head_steps
-  head-length target =
+  head_length target =
       omega (
         arith,
-        send-length (selecting kind.selection ++ head_of kind.mode target),
+        send_length (selecting kind.selection ++ head_of kind.mode target),
         length-append (selecting kind.selection) (head_of kind.mode target),
       )
 
-  pub write-length : (target : Target) (old : ℕ) (bytes : List ℕ) → length (write_steps kind target old bytes) ≡ write_count kind (length bytes)
+  pub write_length : (target : Target) (old : ℕ) (bytes : List ℕ) → length (write_steps kind target old bytes) ≡ write_count kind (length bytes)
   unfolding write_steps
-  write-length target old bytes = simp (length-append, head-length, written-length)
+  write_length target old bytes = simp (length-append, head_length, written_length)
 
-  pub plan-length : (l t used : ℕ) (new : List ℕ) → length new ≡ 32 → length (plan_of kind l t used new) ≡ total_of kind
+  pub plan_length : (l t used : ℕ) (new : List ℕ) → length new ≡ 32 → length (plan_of kind l t used new) ≡ total_of kind
   unfolding plan_of
-  plan-length l t used new long = simp (length-append, write-length, long) (omega arith)
+  plan_length l t used new long = simp (length-append, write_length, long) (omega arith)

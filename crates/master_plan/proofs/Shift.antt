@@ -4,8 +4,8 @@ use mathlib.Core.Path.{◌≡◌, refl, ap, ◌∙◌}
 use native.Mathlib.Omega.{arith}
 use lib.Bits.{bit_and, and_mask}
 
-pub place-in-byte : (i : ℕ) → bit_and i 7 % 8 ≡ i % 8
-place-in-byte i = ap (λ (k : ℕ). k % 8) (and_mask i 3) ∙ omega arith
+pub place_in_byte : (i : ℕ) → bit_and i 7 % 8 ≡ i % 8
+place_in_byte i = ap (λ (k : ℕ). k % 8) (and_mask i 3) ∙ omega arith
 
 pub shifted : (k : ℕ) → k < 8 → 255 - 1 * 2 ^ k % 256 ≡ 255 - 2 ^ k
 shifted zero lt = refl

@@ -52,10 +52,10 @@ shown_of kind = write_count kind 1 + write_count kind 32 + head_count kind + 8 +
 -- the papers' figures
 pub record Counts : Type 0 where
   -- document 01: 66 + 1,089 + 66 + 1 = 1,222 events, and event 1,213 makes the new page readable
-  pub ordinary-writes : (write_count ordinary 1 ≡ 66) × (write_count ordinary 32 ≡ 1089)
-  pub ordinary-total : (total_of ordinary ≡ 66 + 1089 + 66 + 1) × (total_of ordinary ≡ 1222)
-  pub ordinary-shown : shown_of ordinary ≡ 1213
+  pub ordinary_writes : (write_count ordinary 1 ≡ 66) × (write_count ordinary 32 ≡ 1089)
+  pub ordinary_total : (total_of ordinary ≡ 66 + 1089 + 66 + 1) × (total_of ordinary ≡ 1222)
+  pub ordinary_shown : shown_of ordinary ≡ 1213
   -- M-101: 50 + 577 + 50 + 1 = 678 events, and event 669
-  pub quick-writes : (write_count quick 1 ≡ 50) × (write_count quick 32 ≡ 577)
-  pub quick-total : (total_of quick ≡ 50 + 577 + 50 + 1) × (total_of quick ≡ 678)
-  pub quick-shown : shown_of quick ≡ 669
+  pub quick_writes : (write_count quick 1 ≡ 50) × (write_count quick 32 ≡ 577)
+  pub quick_total : (total_of quick ≡ 50 + 577 + 50 + 1) × (total_of quick ≡ 678)
+  pub quick_shown : shown_of quick ≡ 669

@@ -20,15 +20,15 @@ use Rattle.chip_memory.specs.Layout.{image_size, status_index, first_address, is
 use Rattle.chip_memory.specs.Image.{data_byte, status_byte, target_byte, page_bit, redirection_of, page_bytes}
 use Rattle.chip_memory.specs.Page.{is_blank}
 use Rattle.chip_memory.specs.Write.{bit_of, status_writable, is_writable, index_of, programmed}
-use Rattle.chip_memory.proofs.Gaps.{redirection-held}
-use Rattle.chip_memory.proofs.Pages.{page-length}
-use Rattle.chip_memory.proofs.Sizes.{first-low}
+use Rattle.chip_memory.proofs.Gaps.{redirection_held}
+use Rattle.chip_memory.proofs.Pages.{page_length}
+use Rattle.chip_memory.proofs.Sizes.{first_low}
 use Rattle.chip_stage.specs.Limits.{target_at}
 use Rattle.chip_chain.specs.Free.{Free}
 use Rattle.base_types.proofs.Scan.{both_true}
 use Rattle.chip_chain_laws.specs.Update.{bitmap_index, stored_from, bit_cleared, page_filled, linked}
-use Rattle.chip_chain_laws.proofs.Images.{Accepted, bytes-before}
-use Rattle.chip_chain_laws.proofs.Stores.{stored-length}
+use Rattle.chip_chain_laws.proofs.Images.{Accepted, bytes_before}
+use Rattle.chip_chain_laws.proofs.Stores.{stored_length}
 use Rattle.master_plan.specs.Places.{bitmap_address, clearing, redirection_address, naming}
 use Rattle.master_publisher.specs.Start.{bitmap_byte}
 
@@ -48,11 +48,11 @@ over_ones : (byte : ℕ) → byte < 256 → bit_and 255 byte ≡ byte
 over_ones byte lt = and_comm 255 byte ∙ and_mask byte 8 ∙ mod-eq_of_lt lt
 
 -- every byte of a blank page is FFh
-blank-at : (bs : List ℕ) → is_blank bs ≡ true → (i : ℕ) → i < length bs → get_or bs i 0 ≡ 255
+blank_at : (bs : List ℕ) → is_blank bs ≡ true → (i : ℕ) → i < length bs → get_or bs i 0 ≡ 255
 unfolding is_blank
-blank-at [] e i lt = absurd (not-suc-le-zero lt)
-blank-at (b ∷ bs) e zero lt = eqb-true b 255 (both_true (eqb b 255) (is_blank bs) e).0
-blank-at (b ∷ bs) e (suc i) lt = blank-at bs (both_true (eqb b 255) (is_blank bs) e).1 i (le_of_suc-le-suc lt)
+blank_at [] e i lt = absurd (not-suc-le-zero lt)
+blank_at (b ∷ bs) e zero lt = eqb-true b 255 (both_true (eqb b 255) (is_blank bs) e).0
+blank_at (b ∷ bs) e (suc i) lt = blank_at bs (both_true (eqb b 255) (is_blank bs) e).1 i (le_of_suc-le-suc lt)
 
 module _ (n : ℕ) where
   -- ---- a target that can be written
@@ -62,21 +62,21 @@ module _ (n : ℕ) where
   unfolding programmed
   programs img t byte w = simp w
 
-  over-blank : (img : List ℕ) (t : Target) (byte : ℕ) → is_writable n img t ≡ true → get_or img (index_of n t) 0 ≡ 255 → byte < 256
+  over_blank : (img : List ℕ) (t : Target) (byte : ℕ) → is_writable n img t ≡ true → get_or img (index_of n t) 0 ≡ 255 → byte < 256
       → programmed n img t byte ≡ set img (index_of n t) byte
-  over-blank img t byte w e lt = programs img t byte w ∙ ap (λ x. set img (index_of n t) (bit_and x byte)) e ∙ ap (set img (index_of n t)) (over_ones byte lt)
+  over_blank img t byte w e lt = programs img t byte w ∙ ap (λ x. set img (index_of n t) (bit_and x byte)) e ∙ ap (set img (index_of n t)) (over_ones byte lt)
 
-  data-back : (img : List ℕ) (a v : ℕ) → a < 32 * n → a < length img → target_byte n (set img a v) (target_at DataSpace a) ≡ v
+  data_back : (img : List ℕ) (a v : ℕ) → a < 32 * n → a < length img → target_byte n (set img a v) (target_at DataSpace a) ≡ v
   unfolding target_byte target_at data_byte
-  data-back img a v lt inside = simp (lt-ltb a (32 * n) lt) (get_or-set_same img a v 0 inside)
+  data_back img a v lt inside = simp (lt-ltb a (32 * n) lt) (get_or-set_same img a v 0 inside)
 
-  status-back : (img : List ℕ) (a v : ℕ) → is_held n a ≡ true → status_index n a < length img → target_byte n (set img (status_index n a) v) (Status (record { 0 = a })) ≡ v
+  status_back : (img : List ℕ) (a v : ℕ) → is_held n a ≡ true → status_index n a < length img → target_byte n (set img (status_index n a) v) (Status (record { 0 = a })) ≡ v
   unfolding target_byte status_byte
-  status-back img a v h inside = simp h (get_or-set_same img (status_index n a) v 0 inside)
+  status_back img a v h inside = simp h (get_or-set_same img (status_index n a) v 0 inside)
 
-  bitmap-held : n % 8 ≡ 0 → n ≤ 256 → (t : ℕ) → t < n → is_held n (bitmap_address t).0 ≡ true
+  bitmap_held : n % 8 ≡ 0 → n ≤ 256 → (t : ℕ) → t < n → is_held n (bitmap_address t).0 ≡ true
   unfolding is_held is_within first_address
-  bitmap-held whole low t lt =
+  bitmap_held whole low t lt =
       simp (
         lt-ltb (0x40 + t / 8) 0x100 (omega arith),
         le-ltb (0x40 + t / 8) 0 (omega arith),
@@ -89,9 +89,9 @@ module _ (n : ℕ) where
 
 module _ (n : ℕ) (whole : n % 8 ≡ 0) (img new : List ℕ) (l t : ℕ) (ok : Accepted n img new l t) (free : Free n img t)
     (unprotected : page_bit n RedirectionProtection img l ≡ true) (small : (i : ℕ) → get_or new i 0 < 256) where
-  written-length : (k : ℕ) → length (written n img new t k) ≡ image_size n
-  written-length k =
-      stored-length n (bit_cleared n img t (cleared_byte n img t)) new t k ∙ length-set img (bitmap_index n t) (cleared_byte n img t) ∙ ok.size
+  written_length : (k : ℕ) → length (written n img new t k) ≡ image_size n
+  written_length k =
+      stored_length n (bit_cleared n img t (cleared_byte n img t)) new t k ∙ length-set img (bitmap_index n t) (cleared_byte n img t) ∙ ok.size
 
   -- ---- t's bitmap bit
 
@@ -99,12 +99,12 @@ module _ (n : ℕ) (whole : n % 8 ≡ 0) (img new : List ℕ) (l t : ℕ) (ok : 
   unfolding is_writable status_writable index_of bitmap_byte first_address stored_from
   clears =
       programs n img (Status (bitmap_address t)) (clearing t)
-      (simp (lt-ltb (0x40 + t / 8) 0x100 (omega arith), bitmap-held n whole ok.count t ok.target))
+      (simp (lt-ltb (0x40 + t / 8) 0x100 (omega arith), bitmap_held n whole ok.count t ok.target))
 
-  pub clears-back : target_byte n (written n img new t 0) (Status (bitmap_address t)) ≡ bit_and (bitmap_byte n img t) (clearing t)
+  pub clears_back : target_byte n (written n img new t 0) (Status (bitmap_address t)) ≡ bit_and (bitmap_byte n img t) (clearing t)
   unfolding bitmap_byte stored_from
-  clears-back =
-      status-back n img (bitmap_address t).0 (cleared_byte n img t) (bitmap-held n whole ok.count t ok.target) (omega (arith, first-low UsedPages))
+  clears_back =
+      status_back n img (bitmap_address t).0 (cleared_byte n img t) (bitmap_held n whole ok.count t ok.target) (omega (arith, first_low UsedPages))
 
   -- ---- the bytes of page t
 
@@ -114,55 +114,55 @@ module _ (n : ℕ) (whole : n % 8 ≡ 0) (img new : List ℕ) (l t : ℕ) (ok : 
   ahead zero k le = refl
   ahead (suc j) k le = get_or-set_other (written n img new t j) (32 * t + j) (32 * t + k) (get_or new j 0) 0 (omega arith) ∙ ahead j k (omega arith)
 
-  was-blank : (k : ℕ) → k < 32 → get_or (written n img new t k) (32 * t + k) 0 ≡ 255
+  was_blank : (k : ℕ) → k < 32 → get_or (written n img new t k) (32 * t + k) 0 ≡ 255
   unfolding page_bytes
-  was-blank k lt =
+  was_blank k lt =
       ahead k k (omega arith)
       ∙ get_or-set_other img (bitmap_index n t) (32 * t + k) (cleared_byte n img t) 0 (omega arith)
       ∙ sym (get_or-take 32 (drop (32 * t) img) k 0 lt ∙ get_or-drop (32 * t) img k 0)
-      ∙ blank-at (page_bytes img t) free.blank k (omega (arith, page-length n img t ok.size ok.target))
+      ∙ blank_at (page_bytes img t) free.blank k (omega (arith, page_length n img t ok.size ok.target))
 
   -- the protection bits are as they were at every stage
-  bits-kept : (f : Field) (k p : ℕ) → first_address f ≤ 32 → p < n → k ≤ 32 → page_bit n f (written n img new t k) p ≡ page_bit n f img p
+  bits_kept : (f : Field) (k p : ℕ) → first_address f ≤ 32 → p < n → k ≤ 32 → page_bit n f (written n img new t k) p ≡ page_bit n f img p
   unfolding page_bit stored_from
-  bits-kept f zero p le lt lk =
+  bits_kept f zero p le lt lk =
       ap (λ x. bit_at x (p % 8)) (get_or-set_other img (bitmap_index n t) (status_index n (first_address f + p / 8)) (cleared_byte n img t) 0
       (unfold first_address in omega arith))
-  bits-kept f (suc k) p le lt lk =
+  bits_kept f (suc k) p le lt lk =
       ap (λ x. bit_at x (p % 8)) (get_or-set_other (written n img new t k) (32 * t + k) (status_index n (first_address f + p / 8)) (get_or new k 0) 0 (omega arith))
-      ∙ bits-kept f k p le lt (omega arith)
+      ∙ bits_kept f k p le lt (omega arith)
 
-  fill-open : (k : ℕ) → k < 32 → is_writable n (written n img new t k) (target_at DataSpace (32 * t + k)) ≡ true
+  fill_open : (k : ℕ) → k < 32 → is_writable n (written n img new t k) (target_at DataSpace (32 * t + k)) ≡ true
   unfolding is_writable target_at bit_of
-  fill-open k lt =
+  fill_open k lt =
       let p : (32 * t + k) / 32 ≡ t = omega arith in
-      rw p (simp (lt-ltb t n ok.target) (bits-kept DataProtection k t (unfold first_address in omega arith) ok.target (omega arith) ∙ free.unprotected))
+      rw p (simp (lt-ltb t n ok.target) (bits_kept DataProtection k t (unfold first_address in omega arith) ok.target (omega arith) ∙ free.unprotected))
 
   pub fills : (k : ℕ) → k < 32 → programmed n (written n img new t k) (target_at DataSpace (32 * t + k)) (get_or new k 0) ≡ written n img new t (suc k)
   unfolding index_of target_at stored_from
-  fills k lt = over-blank n (written n img new t k) (target_at DataSpace (32 * t + k)) (get_or new k 0) (fill-open k lt) (was-blank k lt) (small k)
+  fills k lt = over_blank n (written n img new t k) (target_at DataSpace (32 * t + k)) (get_or new k 0) (fill_open k lt) (was_blank k lt) (small k)
 
-  pub fills-back : (k : ℕ) → k < 32 → target_byte n (written n img new t (suc k)) (target_at DataSpace (32 * t + k)) ≡ bit_and 255 (get_or new k 0)
+  pub fills_back : (k : ℕ) → k < 32 → target_byte n (written n img new t (suc k)) (target_at DataSpace (32 * t + k)) ≡ bit_and 255 (get_or new k 0)
   unfolding stored_from
-  fills-back k lt =
-      data-back n (written n img new t k) (32 * t + k) (get_or new k 0) (omega arith) (omega (arith, written-length k)) ∙ sym (over_ones (get_or new k 0) (small k))
+  fills_back k lt =
+      data_back n (written n img new t k) (32 * t + k) (get_or new k 0) (omega arith) (omega (arith, written_length k)) ∙ sym (over_ones (get_or new k 0) (small k))
 
   -- ---- l's redirection byte
 
-  link-open : is_writable n (written n img new t 32) (Status (redirection_address l)) ≡ true
+  link_open : is_writable n (written n img new t 32) (Status (redirection_address l)) ≡ true
   unfolding is_writable status_writable bit_of
-  link-open =
+  link_open =
       let p : 0x100 + l - 0x100 ≡ l = omega arith in
       simp (le-ltb (0x100 + l) 0x100 (omega arith), p, lt-ltb l n ok.superseded)
-      (bits-kept RedirectionProtection 32 l (unfold first_address in omega arith) ok.superseded (omega arith) ∙ unprotected)
+      (bits_kept RedirectionProtection 32 l (unfold first_address in omega arith) ok.superseded (omega arith) ∙ unprotected)
 
   pub links : programmed n (written n img new t 32) (Status (redirection_address l)) (naming t).0 ≡ linked_image n img new l t
   unfolding index_of redirection_of
   links =
-      over-blank n (written n img new t 32) (Status (redirection_address l)) (255 - t) link-open
-      (ap (λ b. b l) (bytes-before n img new l t (cleared_byte n img t) ok 32 (omega arith)) ∙ ok.superseded-valid) (omega arith)
+      over_blank n (written n img new t 32) (Status (redirection_address l)) (255 - t) link_open
+      (ap (λ b. b l) (bytes_before n img new l t (cleared_byte n img t) ok 32 (omega arith)) ∙ ok.superseded_valid) (omega arith)
 
-  pub links-back : target_byte n (linked_image n img new l t) (Status (redirection_address l)) ≡ bit_and 255 (naming t).0
-  links-back =
-      status-back n (written n img new t 32) (redirection_address l).0 (255 - t) (redirection-held n (redirection_address l).0 (omega arith) (omega arith)) (omega (arith, written-length 32))
+  pub links_back : target_byte n (linked_image n img new l t) (Status (redirection_address l)) ≡ bit_and 255 (naming t).0
+  links_back =
+      status_back n (written n img new t 32) (redirection_address l).0 (255 - t) (redirection_held n (redirection_address l).0 (omega arith) (omega arith)) (omega (arith, written_length 32))
       ∙ sym (over_ones (255 - t) (omega arith))

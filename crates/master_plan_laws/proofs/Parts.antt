@@ -33,10 +33,10 @@ use Rattle.chip_entries.specs.declared.event.Stage.TheVariants.{Memory}
 use Rattle.chip_entries.specs.Event.{awaiting_rom}
 use Rattle.chip_entries.specs.Run.{Chip}
 use Rattle.chip_session_laws.specs.Session.{Ready, ◌at◌, ◌holding◌, Selection as Selects, skip}
-use Rattle.chip_session_laws.proofs.Slots.{byte-in}
+use Rattle.chip_session_laws.proofs.Slots.{byte_in_lem}
 use Rattle.chip_session_laws.proofs.Sessions.{resets}
-use Rattle.chip_session_laws.proofs.Writes.{crc-read, fires, back_read, is-write}
-use Rattle.master_plan_laws.proofs.Stretches.{Stretch, ◌then◌, Quiet, free-events, free-quiet, read-events, read-quiet, quietly, singly, still-ready}
+use Rattle.chip_session_laws.proofs.Writes.{crc_read, fires, back_read, is_write}
+use Rattle.master_plan_laws.proofs.Stretches.{Stretch, ◌then◌, Quiet, free_events, free_quiet, read_events, read_quiet, quietly, singly, still_ready}
 
 -- a chip within a memory function, with this image
 abbrev pub standing : Chip → MemoryStage → List ℕ → Chip
@@ -49,15 +49,15 @@ selects : (number : List ℕ) (s : Selection) → Selects number (bits_of_bytes 
 unfolding bits_of bits_of_bytes
 selects number SkipRom = skip
 
-bits-append : (xs ys : List ℕ) → bits_of_bytes (xs ++ ys) ≡ bits_of_bytes xs ++ bits_of_bytes ys
+bits_append : (xs ys : List ℕ) → bits_of_bytes (xs ++ ys) ≡ bits_of_bytes xs ++ bits_of_bytes ys
 unfolding bits_of_bytes
-bits-append [] ys = refl
-bits-append (x ∷ xs) ys = ap (λ (l : List Bool). bits_of 8 x ++ l) (bits-append xs ys) ∙ sym (append_assoc (bits_of 8 x) (bits_of_bytes xs) (bits_of_bytes ys))
+bits_append [] ys = refl
+bits_append (x ∷ xs) ys = ap (λ (l : List Bool). bits_of 8 x ++ l) (bits_append xs ys) ∙ sym (append_assoc (bits_of 8 x) (bits_of_bytes xs) (bits_of_bytes ys))
 
-own-target : (target : Target) → target_at (space_of target) (address_of target) ≡ target
+own_target : (target : Target) → target_at (space_of target) (address_of target) ≡ target
 unfolding target_at
-own-target (Data a) = refl
-own-target (Status a) = refl
+own_target (Data a) = refl
+own_target (Status a) = refl
 
 module _ (P : List ℕ → Type 0) (n : ℕ) (whole : n % 8 ≡ 0) where
   pub head : n ≤ 256 → (kind : UpdateKind) (c : Chip) (target : Target) → address_of target < limit_of n (space_of target) → Ready n c → P c.image
@@ -66,9 +66,9 @@ module _ (P : List ℕ → Type 0) (n : ℕ) (whole : n % 8 ≡ 0) where
   head low kind c target lt ok h =
       let bytes = selecting kind.selection in
       let bits = bits_of_bytes bytes ++ bits_of_bytes (head_of kind.mode target) in
-      rw (bits-append bytes (head_of kind.mode target))
-      (quietly P (reset_step ∷ freely (slots bits)) (ap (λ (l : List Event). reset ∷ l) (free-events bits)) (refl, refl, free-quiet bits) h
-      (rw (own-target target) at (is-write n whole low kind.mode (space_of target) (address_of target) c ok (selects c.state.number kind.selection) lt)))
+      rw (bits_append bytes (head_of kind.mode target))
+      (quietly P (reset_step ∷ freely (slots bits)) (ap (λ (l : List Event). reset ∷ l) (free_events bits)) (refl, refl, free_quiet bits) h
+      (rw (own_target target) at (is_write n whole low kind.mode (space_of target) (address_of target) c ok (selects c.state.number kind.selection) lt)))
 
   pub closing : (c : Chip) → Ready n c → P c.image → Stretch P n c (reset_step ∷ []) (c at awaiting_rom)
   closing c ok h = singly P reset Presence refl h h (resets n whole c ok)
@@ -79,7 +79,7 @@ module _ (P : List ℕ → Type 0) (n : ℕ) (whole : n % 8 ≡ 0) where
   unfolding send_steps received bits_of_bytes
   sends mode t c register byte lt ok h =
       rw (append-nil (bits_of 8 byte))
-      (quietly P (freely (slots (bits_of 8 byte))) (free-events (bits_of 8 byte)) (free-quiet (bits_of 8 byte)) h (byte-in n whole c (DataByte mode t) register byte lt ok))
+      (quietly P (freely (slots (bits_of 8 byte))) (free_events (bits_of 8 byte)) (free_quiet (bits_of 8 byte)) h (byte_in_lem n whole c (DataByte mode t) register byte lt ok))
 
   -- up to the pulse
   pub arms : (mode : WriteMode) (t : Target) (c : Chip) (register byte : ℕ) → byte < 256 → Ready n (standing c (receiving (DataByte mode t) register) c.image) → P c.image
@@ -90,8 +90,8 @@ module _ (P : List ℕ → Type 0) (n : ℕ) (whole : n % 8 ≡ 0) where
       let word = crc16_word (crc16_byte register byte) in
       let first = sends Ordinary t c register byte lt ok h in
       first
-      then quietly P (read_steps LastCrcBit 16 word) (read-events LastCrcBit 16 word) (read-quiet LastCrcBit (λ b. refl) 16 word) h
-      (crc-read n whole c Ordinary t byte register (still-ready whole ok first))
+      then quietly P (read_steps LastCrcBit 16 word) (read_events LastCrcBit 16 word) (read_quiet LastCrcBit (λ b. refl) 16 word) h
+      (crc_read n whole c Ordinary t byte register (still_ready whole ok first))
   arms Quick t c register byte lt ok h = rw append-nil (sends Quick t c register byte lt ok h)
 
   module _ (mode : WriteMode) (t : Target) where
@@ -100,12 +100,12 @@ module _ (P : List ℕ → Type 0) (n : ℕ) (whole : n % 8 ≡ 0) where
         → Stretch P n (standing c (Armed mode t byte) c.image) (pulse_step ∷ []) (standing c (reading_back n mode t img) img)
     pulses c byte img e ok h h' = singly P pulse Anything tt h h' (rw e at (fires n whole c mode t byte ok))
 
-    pub reads-back : (c : Chip) (old byte : ℕ) → target_byte n c.image t ≡ bit_and old byte → Ready n (standing c (reading_back n mode t c.image) c.image) → P c.image
+    pub reads_back : (c : Chip) (old byte : ℕ) → target_byte n c.image t ≡ bit_and old byte → Ready n (standing c (reading_back n mode t c.image) c.image) → P c.image
         → Stretch P n (standing c (reading_back n mode t c.image) c.image) (back_steps old byte) (standing c (next_write n mode t) c.image)
     unfolding back_steps
-    reads-back c old byte e ok h =
+    reads_back c old byte e ok h =
         let v = bit_and old byte in
-        quietly P (read_steps LastBackBit 8 v) (read-events LastBackBit 8 v) (read-quiet LastBackBit (λ b. refl) 8 v) h (rw e at (back_read n whole c mode t ok))
+        quietly P (read_steps LastBackBit 8 v) (read_events LastBackBit 8 v) (read_quiet LastBackBit (λ b. refl) 8 v) h (rw e at (back_read n whole c mode t ok))
 
     pub writes_byte : (c : Chip) (register old byte : ℕ) (img : List ℕ) → byte < 256 → programmed n c.image t byte ≡ img → target_byte n img t ≡ bit_and old byte
         → Ready n (standing c (receiving (DataByte mode t) register) c.image) → P c.image → P img
@@ -113,6 +113,6 @@ module _ (P : List ℕ → Type 0) (n : ℕ) (whole : n % 8 ≡ 0) where
     unfolding byte_steps
     writes_byte c register old byte img lt e back ok h h' =
         let first = arms mode t c register byte lt ok h in
-        let ok₁ = still-ready whole ok first in
+        let ok₁ = still_ready whole ok first in
         let second = pulses c byte img e ok₁ h h' in
-        rw (← (append_assoc (send_steps (byte ∷ [])))) (first then second then reads-back (c holding img) old byte back (still-ready whole ok₁ second) h')
+        rw (← (append_assoc (send_steps (byte ∷ [])))) (first then second then reads_back (c holding img) old byte back (still_ready whole ok₁ second) h')

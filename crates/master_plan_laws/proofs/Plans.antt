@@ -13,7 +13,7 @@ use Rattle.base_types.specs.declared.address.Target.{Target}
 use Rattle.base_types.specs.declared.address.Target.TheVariants.{Data, Status}
 use Rattle.base_crc.specs.Crc.{crc16_byte, crc16_of, crc16_word}
 use Rattle.chip_memory.specs.declared.layout.Field.TheVariants.{RedirectionProtection, UsedPages}
-use Rattle.chip_memory.proofs.Sizes.{first-low}
+use Rattle.chip_memory.proofs.Sizes.{first_low}
 use Rattle.chip_memory.specs.Image.{page_bit}
 use Rattle.chip_stage.specs.declared.stage.Incoming.TheVariants.{Data as DataByte}
 use Rattle.chip_stage.specs.declared.stage.MemoryStage.{MemoryStage}
@@ -28,15 +28,15 @@ use Rattle.master_plan.specs.declared.kind.UpdateKind.{UpdateKind}
 use Rattle.master_plan.specs.Kind.{shown_of}
 use Rattle.master_plan.specs.Places.{bitmap_address, clearing, page_address, redirection_address, naming, head_of}
 use Rattle.master_plan.specs.Plan.{reset_step, pulse_step, send_steps, crc_steps, back_steps, byte_steps, bytes_steps, head_steps, write_steps, plan_of}
-use Rattle.master_plan.proofs.Lengths.{send-length, crc-length, head-length, write-length}
+use Rattle.master_plan.proofs.Lengths.{send_length, crc_length, head_length, write_length}
 use Rattle.master_publisher.specs.Start.{bitmap_byte}
 use Rattle.chip_entries.specs.Event.{awaiting_rom}
 use Rattle.chip_entries.specs.Run.{Chip}
 use Rattle.chip_session_laws.specs.Session.{Ready, ◌at◌, ◌holding◌, Bytes}
-use Rattle.chip_session_laws.proofs.Writes.{next-target}
-use Rattle.master_plan_laws.proofs.Images.{written, linked_image, clears, clears-back, fills, fills-back, links, links-back}
-use Rattle.master_plan_laws.proofs.Stretches.{Stretch, ◌then◌, still-ready}
-use Rattle.master_plan_laws.proofs.Parts.{standing, head, closing, arms, pulses, reads-back, writes_byte}
+use Rattle.chip_session_laws.proofs.Writes.{next_target}
+use Rattle.master_plan_laws.proofs.Images.{written, linked_image, clears, clears_back, fills, fills_back, links, links_back}
+use Rattle.master_plan_laws.proofs.Stretches.{Stretch, ◌then◌, still_ready}
+use Rattle.master_plan_laws.proofs.Parts.{standing, head, closing, arms, pulses, reads_back, writes_byte}
 
 -- ---- the plan in three parts
 
@@ -54,51 +54,51 @@ before_pulse kind l t used new =
 unfoldable pub after_pulse : ℕ → List Step
 after_pulse t = back_steps 255 (naming t).0 ++ (reset_step ∷ [])
 
-last-write : (kind : UpdateKind) (target : Target) (byte : ℕ)
+last_write : (kind : UpdateKind) (target : Target) (byte : ℕ)
     → write_steps kind target 255 (byte ∷ []) ++ (reset_step ∷ []) ≡ to_pulse kind target byte ++ (pulse_step ∷ (back_steps 255 byte ++ (reset_step ∷ [])))
 unfolding write_steps bytes_steps byte_steps
-last-write kind target byte = simp (append-nil, append_assoc)
+last_write kind target byte = simp (append-nil, append_assoc)
 
-pub plan-split : (kind : UpdateKind) (l t used : ℕ) (new : List ℕ) → plan_of kind l t used new ≡ before_pulse kind l t used new ++ (pulse_step ∷ after_pulse t)
+pub plan_split : (kind : UpdateKind) (l t used : ℕ) (new : List ℕ) → plan_of kind l t used new ≡ before_pulse kind l t used new ++ (pulse_step ∷ after_pulse t)
 unfolding plan_of before_pulse after_pulse
-plan-split kind l t used new = simp (last-write, append_assoc)
+plan_split kind l t used new = simp (last_write, append_assoc)
 
 -- one event fewer than the number of the one that shows
-pub before-length : (kind : UpdateKind) (l t used : ℕ) (new : List ℕ) → length new ≡ 32 → length (before_pulse kind l t used new) ≡ shown_of kind - 1
+pub before_length : (kind : UpdateKind) (l t used : ℕ) (new : List ℕ) → length new ≡ 32 → length (before_pulse kind l t used new) ≡ shown_of kind - 1
 unfolding before_pulse
-before-length kind l t used new long = simp (length-append, write-length, head-length, send-length, crc-length, long) (omega arith)
+before_length kind l t used new long = simp (length-append, write_length, head_length, send_length, crc_length, long) (omega arith)
 
 -- ---- the parts on the chip
 
 module _ (n : ℕ) (whole : n % 8 ≡ 0) (kind : UpdateKind) (c : Chip) (new : List ℕ) (l t : ℕ) (ok : Accepted n c.image new l t) (free : Free n c.image t)
     (unprotected : page_bit n RedirectionProtection c.image l ≡ true) (small : Bytes new) where
   module _ (P : List ℕ → Type 0) (still : (k : ℕ) → k ≤ 32 → P (written n c.image new t k)) where
-    first-write : Ready n c → P c.image
+    first_write : Ready n c → P c.image
         → Stretch P n c (write_steps kind (Status (bitmap_address t)) (bitmap_byte n c.image t) (clearing t ∷ []))
         (standing c (next_write n kind.mode (Status (bitmap_address t))) (written n c.image new t 0))
     unfolding write_steps bytes_steps limit_of
-    first-write ready h =
+    first_write ready h =
         let a = Status (bitmap_address t) in
-        let first = head P n whole ok.count kind c a (omega (arith, first-low UsedPages)) ready h in
+        let first = head P n whole ok.count kind c a (omega (arith, first_low UsedPages)) ready h in
         first
         then rw append-nil
         (writes_byte P n whole kind.mode a c (crc16_of (head_of kind.mode a)) (bitmap_byte n c.image t) (clearing t) (written n c.image new t 0) (omega arith)
-        (clears n whole c.image new l t ok free unprotected small) (clears-back n whole c.image new l t ok free unprotected small)
-        (still-ready whole ready first) h (still 0 (omega arith)))
+        (clears n whole c.image new l t ok free unprotected small) (clears_back n whole c.image new l t ok free unprotected small)
+        (still_ready whole ready first) h (still 0 (omega arith)))
 
-    one-fill : (k register : ℕ) → k < 32 → Ready n (standing c (receiving (DataByte kind.mode (target_at DataSpace (32 * t + k))) register) (written n c.image new t k))
+    one_fill : (k register : ℕ) → k < 32 → Ready n (standing c (receiving (DataByte kind.mode (target_at DataSpace (32 * t + k))) register) (written n c.image new t k))
         → Stretch P n (standing c (receiving (DataByte kind.mode (target_at DataSpace (32 * t + k))) register) (written n c.image new t k)) (byte_steps kind.mode register 255 (get_or new k 0))
         (standing c (next_write n kind.mode (target_at DataSpace (32 * t + k))) (written n c.image new t (suc k)))
-    one-fill k register lt ready =
+    one_fill k register lt ready =
         writes_byte P n whole kind.mode (target_at DataSpace (32 * t + k)) (c holding written n c.image new t k) register 255 (get_or new k 0) (written n c.image new t (suc k)) (small k)
-        (fills n whole c.image new l t ok free unprotected small k lt) (fills-back n whole c.image new l t ok free unprotected small k lt)
+        (fills n whole c.image new l t ok free unprotected small k lt) (fills_back n whole c.image new l t ok free unprotected small k lt)
         ready (still k (omega arith)) (still (suc k) lt)
 
-    next-fill : (k : ℕ) → k < 31 → next_write n kind.mode (target_at DataSpace (32 * t + k)) ≡ receiving (DataByte kind.mode (target_at DataSpace (32 * t + suc k))) (32 * t + suc k)
+    next_fill : (k : ℕ) → k < 31 → next_write n kind.mode (target_at DataSpace (32 * t + k)) ≡ receiving (DataByte kind.mode (target_at DataSpace (32 * t + suc k))) (32 * t + suc k)
     unfolding raised limit_of
-    next-fill k lt =
+    next_fill k lt =
         let e : 32 * t + k + 1 ≡ 32 * t + suc k = omega arith in
-        next-target n whole kind.mode DataSpace (32 * t + k) ∙ simp (e, lt-ltb (32 * t + suc k) (32 * n) (omega arith))
+        next_target n whole kind.mode DataSpace (32 * t + k) ∙ simp (e, lt-ltb (32 * t + suc k) (32 * n) (omega arith))
 
     -- the data from byte number k to byte number j, the last
     fill : (m k j register : ℕ) → k + m ≡ j → suc j ≡ 32 → Ready n (standing c (receiving (DataByte kind.mode (target_at DataSpace (32 * t + k))) register) (written n c.image new t k))
@@ -109,51 +109,51 @@ module _ (n : ℕ) (whole : n % 8 ≡ 0) (kind : UpdateKind) (c : Chip) (new : L
     fill zero k j register e z ready =
         let s : j ≡ k = omega arith in
         let d : drop (suc k) new ≡ [] = let w : suc k ≡ length new = omega arith in rw w (drop-length new) in
-        rw (s, drop-cons new k 0 (omega arith), d, append-nil) (one-fill k register (omega arith) ready)
+        rw (s, drop-cons new k 0 (omega arith), d, append-nil) (one_fill k register (omega arith) ready)
     fill (suc m) k j register e z ready =
         let s : 32 * t + k + 1 ≡ 32 * t + suc k = omega arith in
-        let first = rw (next-fill k (omega arith)) at (one-fill k register (omega arith) ready) in
-        rw (drop-cons new k 0 (omega arith), s) (first then fill m (suc k) j (32 * t + suc k) (omega arith) z (still-ready whole ready first))
+        let first = rw (next_fill k (omega arith)) at (one_fill k register (omega arith) ready) in
+        rw (drop-cons new k 0 (omega arith), s) (first then fill m (suc k) j (32 * t + suc k) (omega arith) z (still_ready whole ready first))
 
-    second-write : (d : MemoryStage) → Ready n (standing c d (written n c.image new t 0))
+    second_write : (d : MemoryStage) → Ready n (standing c d (written n c.image new t 0))
         → Stretch P n (standing c d (written n c.image new t 0)) (write_steps kind (Data (page_address t)) 255 new)
         (standing c (next_write n kind.mode (target_at DataSpace (32 * t + 31))) (written n c.image new t 32))
     unfolding write_steps limit_of target_at
-    second-write d ready =
+    second_write d ready =
         let first = head P n whole ok.count kind (standing c d (written n c.image new t 0)) (Data (page_address t)) (omega arith) ready (still 0 (omega arith)) in
-        first then (rw add-zero at (fill 31 0 31 (crc16_of (head_of kind.mode (Data (page_address t)))) refl refl (rw add-zero (still-ready whole ready first))))
+        first then (rw add-zero at (fill 31 0 31 (crc16_of (head_of kind.mode (Data (page_address t)))) refl refl (rw add-zero (still_ready whole ready first))))
 
     -- all that comes before the pulse that writes the redirection byte
-    pub to-the-pulse : Ready n c → P c.image
+    pub to_the_pulse : Ready n c → P c.image
         → Stretch P n c (before_pulse kind l t (bitmap_byte n c.image t) new) (standing c (Armed kind.mode (Status (redirection_address l)) (naming t).0) (written n c.image new t 32))
     unfolding before_pulse limit_of
-    to-the-pulse ready h =
+    to_the_pulse ready h =
         let a = Status (redirection_address l) in
-        let first = first-write ready h in
-        let ok₁ = still-ready whole ready first in
-        let second = second-write (next_write n kind.mode (Status (bitmap_address t))) ok₁ in
-        let ok₂ = still-ready whole ok₁ second in
+        let first = first_write ready h in
+        let ok₁ = still_ready whole ready first in
+        let second = second_write (next_write n kind.mode (Status (bitmap_address t))) ok₁ in
+        let ok₂ = still_ready whole ok₁ second in
         let third =
         head P n whole ok.count kind (standing c (next_write n kind.mode (target_at DataSpace (32 * t + 31))) (written n c.image new t 32)) a (omega arith) ok₂ (still 32 (omega arith)) in
         first then second then third
         then arms P n whole kind.mode a (c holding written n c.image new t 32) (crc16_of (head_of kind.mode a)) (naming t).0 (omega arith)
-        (still-ready whole ok₂ third) (still 32 (omega arith))
+        (still_ready whole ok₂ third) (still 32 (omega arith))
 
   -- the pulse
-  pub the-pulse : Ready n (standing c (Armed kind.mode (Status (redirection_address l)) (naming t).0) (written n c.image new t 32))
+  pub the_pulse : Ready n (standing c (Armed kind.mode (Status (redirection_address l)) (naming t).0) (written n c.image new t 32))
       → Stretch (λ _. Unit {0}) n (standing c (Armed kind.mode (Status (redirection_address l)) (naming t).0) (written n c.image new t 32)) (pulse_step ∷ [])
       (standing c (reading_back n kind.mode (Status (redirection_address l)) (linked_image n c.image new l t)) (linked_image n c.image new l t))
-  the-pulse ready =
+  the_pulse ready =
       pulses (λ _. Unit {0}) n whole kind.mode (Status (redirection_address l)) (c holding written n c.image new t 32) (naming t).0 (linked_image n c.image new l t)
       (links n whole c.image new l t ok free unprotected small) ready tt tt
 
   -- all that comes after it
-  pub from-the-pulse : (P : List ℕ → Type 0) → P (linked_image n c.image new l t)
+  pub from_the_pulse : (P : List ℕ → Type 0) → P (linked_image n c.image new l t)
       → Ready n (standing c (reading_back n kind.mode (Status (redirection_address l)) (linked_image n c.image new l t)) (linked_image n c.image new l t))
       → Stretch P n (standing c (reading_back n kind.mode (Status (redirection_address l)) (linked_image n c.image new l t)) (linked_image n c.image new l t)) (after_pulse t)
       ((c holding linked_image n c.image new l t) at awaiting_rom)
   unfolding after_pulse
-  from-the-pulse P h ready =
+  from_the_pulse P h ready =
       let d = c holding linked_image n c.image new l t in
-      let first = reads-back P n whole kind.mode (Status (redirection_address l)) d 255 (naming t).0 (links-back n whole c.image new l t ok free unprotected small) ready h in
-      first then closing P n whole (standing d (next_write n kind.mode (Status (redirection_address l))) d.image) (still-ready whole ready first) h
+      let first = reads_back P n whole kind.mode (Status (redirection_address l)) d 255 (naming t).0 (links_back n whole c.image new l t ok free unprotected small) ready h in
+      first then closing P n whole (standing d (next_write n kind.mode (Status (redirection_address l))) d.image) (still_ready whole ready first) h

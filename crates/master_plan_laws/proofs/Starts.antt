@@ -15,14 +15,14 @@ use Rattle.base_types.specs.declared.verdict.Verdict.TheVariants.{Final, Loop, O
 use Rattle.chip_memory.specs.declared.layout.Field.TheVariants.{DataProtection, RedirectionProtection}
 use Rattle.chip_memory.specs.Layout.{image_size, is_image, is_page}
 use Rattle.chip_memory.specs.Image.{redirection_of, page_bit}
-use Rattle.chip_memory.proofs.Sizes.{image-length, page-below}
+use Rattle.chip_memory.proofs.Sizes.{image_length, page_below}
 use Rattle.chip_chain.specs.declared.free.Found.{Found}
 use Rattle.chip_chain.specs.declared.free.Found.TheVariants.{At, Nothing}
 use Rattle.chip_chain.specs.Walk.{walk_of}
 use Rattle.chip_chain.specs.Chain.{EndsFinal}
 use Rattle.chip_chain.specs.Free.{Free}
-use Rattle.chip_chain.proofs.Frees.{found-means}
-use Rattle.chip_chain.proofs.Walks.{final-means}
+use Rattle.chip_chain.proofs.Frees.{found_means}
+use Rattle.chip_chain.proofs.Walks.{final_means}
 use Rattle.chip_chain_laws.proofs.Images.{Accepted}
 use Rattle.chip_chain_laws.proofs.Readings.{accepted}
 use Rattle.master_plan.specs.declared.kind.Placement.{Placement}
@@ -39,12 +39,12 @@ use Rattle.master_plan_laws.specs.Start.{Open, Closed, StartLaws}
 
 -- what a placement chooses is a free page of the chip other than l
 pub record Placed (n : ℕ) (img : List ℕ) (l t : ℕ) : Type 0 where
-  pub on-chip : t < n
+  pub on_chip : t < n
   pub free : Free n img t
   pub apart : t ≡ l → ⊥
 
-pub placed-means : (place : Placement) (n : ℕ) (img : List ℕ) (l t : ℕ) → target_by place n img l ≡ At (record { 0 = t }) → Placed n img l t
-placed-means LowestFree n img l t f = let m = found-means n img l t f in record { on-chip = m.on-chip; free = m.free; apart = m.apart }
+pub placed_means : (place : Placement) (n : ℕ) (img : List ℕ) (l t : ℕ) → target_by place n img l ≡ At (record { 0 = t }) → Placed n img l t
+placed_means LowestFree n img l t f = let m = found_means n img l t f in record { on_chip = m.on_chip; free = m.free; apart = m.apart }
 
 module _ (l t : Page) where
   not_chosen : {A : Type 0} (r : PublisherStop) → Refused r ≡ Chosen l t → A
@@ -55,46 +55,46 @@ module _ (l t : Page) where
   passed true x r h = (refl, h)
   passed false x r h = not_chosen r h
 
-  free-found : (m : Page) (f : Found) → found_choice m f ≡ Chosen l t → (m ≡ l) × (f ≡ At t)
+  free_found : (m : Page) (f : Found) → found_choice m f ≡ Chosen l t → (m ≡ l) × (f ≡ At t)
   unfolding found_choice
-  free-found m (At q) h = (cc, cc)
-  free-found m Nothing h = not_chosen NoFreePage h
+  free_found m (At q) h = (cc, cc)
+  free_found m Nothing h = not_chosen NoFreePage h
 
-  pub chosen-means : (n : ℕ) (kind : UpdateKind) (img new : List ℕ) (p : ℕ) → choice_of n kind.placement img new p ≡ Chosen l t → Open n kind img new p l t
+  pub chosen_means : (n : ℕ) (kind : UpdateKind) (img new : List ℕ) (p : ℕ) → choice_of n kind.placement img new p ≡ Chosen l t → Open n kind img new p l t
   unfolding choice_of choice_walked choice_final choice_free
-  chosen-means n kind img new p h =
+  chosen_means n kind img new p h =
       let a = passed (is_image n img) _ ImageLength h in
       let b = passed (eqb (length new) 32) _ BufferLength a.1 in
       let c = passed (is_page n p) _ PageNumber b.1 in
-      walked (image-length n img a.0) (eqb-true (length new) 32 b.0) (page-below n p c.0) (walk_of n img p) refl c.1
+      walked (image_length n img a.0) (eqb-true (length new) 32 b.0) (page_below n p c.0) (walk_of n img p) refl c.1
     where
       walked : length img ≡ image_size n → length new ≡ 32 → p < n → (v : Verdict) → walk_of n img p ≡ v → choice_walked n kind.placement img v ≡ Chosen l t → Open n kind img new p l t
       walked a b c (Final m k) w r =
           let d = passed (page_bit n DataProtection img m.0) _ (DataProtected m) r in
           let o = passed (page_bit n RedirectionProtection img m.0) _ (RedirectionProtected m) d.1 in
-          let f = free-found m (target_by kind.placement n img m.0) o.1 in
-          let found : Open n kind img new p m t = record { hops = k; size = a; long = b; on-chip = c; walk = w; data-open = d.0; redirection-open = o.0; found = f.1 } in
+          let f = free_found m (target_by kind.placement n img m.0) o.1 in
+          let found : Open n kind img new p m t = record { hops = k; size = a; long = b; on_chip = c; walk = w; data_open = d.0; redirection_open = o.0; found = f.1 } in
           rw f.0 at found
       walked a b c Loop w r = not_chosen Looping r
       walked a b c (Outside x) w r = not_chosen (Leaving x) r
 
 module _ (n : ℕ) (kind : UpdateKind) (img new : List ℕ) (p : ℕ) (l t : Page) (low : n ≤ 256) (m : Open n kind img new p l t) where
-  pub is-accepted : Accepted n img new l.0 t.0
-  is-accepted =
-      let placed = placed-means kind.placement n img l.0 t.0 m.found in
-      accepted n img new p l.0 m.hops t.0 m.size low m.long m.on-chip m.walk placed.on-chip placed.free placed.apart
+  pub is_accepted : Accepted n img new l.0 t.0
+  is_accepted =
+      let placed = placed_means kind.placement n img l.0 t.0 m.found in
+      accepted n img new p l.0 m.hops t.0 m.size low m.long m.on_chip m.walk placed.on_chip placed.free placed.apart
 
   pub is_free_lem : Free n img t.0
-  is_free_lem = (placed-means kind.placement n img l.0 t.0 m.found).free
+  is_free_lem = (placed_means kind.placement n img l.0 t.0 m.found).free
 
   -- t ends at itself, and p at l
   elsewhere : (h : ℕ) → EndsFinal (redirection_of n img) n p l.0 h → p ≡ t.0 → ⊥
-  elsewhere zero e z = is-accepted.apart (sym z ∙ e.there)
-  elsewhere (suc h) e z = (e.before 0 (omega arith)).redirected (ap (redirection_of n img) z ∙ is-accepted.target-valid)
+  elsewhere zero e z = is_accepted.apart (sym z ∙ e.there)
+  elsewhere (suc h) e z = (e.before 0 (omega arith)).redirected (ap (redirection_of n img) z ∙ is_accepted.target_valid)
 
-  pub not-target : p ≡ t.0 → ⊥
+  pub not_target : p ≡ t.0 → ⊥
   unfolding walk_of
-  not-target = elsewhere m.hops ((final-means (redirection_of n img) n p l.0 m.hops m.on-chip).0 m.walk)
+  not_target = elsewhere m.hops ((final_means (redirection_of n img) n p l.0 m.hops m.on_chip).0 m.walk)
 
 -- ---- the start's answer
 
@@ -106,7 +106,7 @@ module _ (n : ℕ) (kind : UpdateKind) (img new : List ℕ) (p : ℕ) where
 
   chooses : (l t : Page) → Open n kind img new p l t → choice_of n kind.placement img new p ≡ Chosen l t
   unfolding choice_walked choice_final choice_free found_choice
-  chooses l t o = walked o.size o.long o.on-chip ∙ simp (o.walk, o.data-open, o.redirection-open, o.found)
+  chooses l t o = walked o.size o.long o.on_chip ∙ simp (o.walk, o.data_open, o.redirection_open, o.found)
 
   closing : (values : List ℕ) → length img ≡ image_size n → length new ≡ 32 → p < n → Closed n img p values → publisher_answer n kind img new p ≡ refused 20 values
   unfolding choice_walked choice_final
@@ -114,17 +114,17 @@ module _ (n : ℕ) (kind : UpdateKind) (img new : List ℕ) (p : ℕ) where
 
   -- ---- the other refusals, in their order
 
-  other-image : (length img ≡ image_size n → ⊥) → publisher_answer n kind img new p ≡ refused 1 []
+  other_image : (length img ≡ image_size n → ⊥) → publisher_answer n kind img new p ≡ refused 1 []
   unfolding choice_of is_image
-  other-image size = simp (ne_eqb (length img) (image_size n) size)
+  other_image size = simp (ne_eqb (length img) (image_size n) size)
 
-  other-new : length img ≡ image_size n → (length new ≡ 32 → ⊥) → publisher_answer n kind img new p ≡ refused 10 []
+  other_new : length img ≡ image_size n → (length new ≡ 32 → ⊥) → publisher_answer n kind img new p ≡ refused 10 []
   unfolding choice_of is_image
-  other-new size long = simp (eq-eqb (length img) (image_size n) size, ne_eqb (length new) 32 long)
+  other_new size long = simp (eq-eqb (length img) (image_size n) size, ne_eqb (length new) 32 long)
 
-  other-page : length img ≡ image_size n → length new ≡ 32 → n ≤ p → publisher_answer n kind img new p ≡ refused 3 []
+  other_page : length img ≡ image_size n → length new ≡ 32 → n ≤ p → publisher_answer n kind img new p ≡ refused 3 []
   unfolding choice_of is_image is_page
-  other-page size long high = simp (eq-eqb (length img) (image_size n) size, eq-eqb (length new) 32 long, le-ltb p n high)
+  other_page size long high = simp (eq-eqb (length img) (image_size n) size, eq-eqb (length new) 32 long, le-ltb p n high)
 
   module _ (size : length img ≡ image_size n) (long : length new ≡ 32) (low : p < n) where
     looping : walk_of n img p ≡ Loop → publisher_answer n kind img new p ≡ refused 4 []
@@ -140,10 +140,10 @@ module _ (n : ℕ) (kind : UpdateKind) (img new : List ℕ) (p : ℕ) where
     unfolding choice_walked choice_final
     guarded l hops w d r = ap choice_outcome (walked size long low) ∙ simp (w, d, r)
 
-    all-used : (l : Page) (hops : ℕ) → walk_of n img p ≡ Final l hops → page_bit n DataProtection img l.0 ≡ true → page_bit n RedirectionProtection img l.0 ≡ true
+    all_used : (l : Page) (hops : ℕ) → walk_of n img p ≡ Final l hops → page_bit n DataProtection img l.0 ≡ true → page_bit n RedirectionProtection img l.0 ≡ true
         → target_by kind.placement n img l.0 ≡ Nothing → publisher_answer n kind img new p ≡ refused 8 []
     unfolding choice_walked choice_final choice_free found_choice
-    all-used l hops w d r f = ap choice_outcome (walked size long low) ∙ simp (w, d, r, f)
+    all_used l hops w d r f = ap choice_outcome (walked size long low) ∙ simp (w, d, r, f)
 
   -- ---- 20 is told by one test alone
 
@@ -151,52 +151,52 @@ module _ (n : ℕ) (kind : UpdateKind) (img new : List ℕ) (p : ℕ) where
     abbrev Tells : Choice → Type 0
     Tells c = choice_outcome c ≡ refused 20 values
 
-    told-by : {A : Type 0} (r : PublisherStop) → (number_of (publisher_refusal r) ≡ 20 → ⊥) → Tells (Refused r) → A
-    told-by r not-20 h = absurd (not-20 cc)
+    told_by : {A : Type 0} (r : PublisherStop) → (number_of (publisher_refusal r) ≡ 20 → ⊥) → Tells (Refused r) → A
+    told_by r not-20 h = absurd (not-20 cc)
 
     -- a test with another number has held
     beyond : (b : Bool) (x : Choice) (r : PublisherStop) → (number_of (publisher_refusal r) ≡ 20 → ⊥) → Tells (cond b x (Refused r)) → Tells x
     beyond true x r not-20 h = h
-    beyond false x r not-20 h = told-by r not-20 h
+    beyond false x r not-20 h = told_by r not-20 h
 
-    free-tells-not : {A : Type 0} (l : Page) (f : Found) → Tells (found_choice l f) → A
+    free_tells_not : {A : Type 0} (l : Page) (f : Found) → Tells (found_choice l f) → A
     unfolding found_choice
-    free-tells-not l (At t) h = absurd (let z : ◌≡◌ {A = ℕ} 0 1 = cc in omega arith)
-    free-tells-not l Nothing h = told-by NoFreePage (λ e. omega arith) h
+    free_tells_not l (At t) h = absurd (let z : ◌≡◌ {A = ℕ} 0 1 = cc in omega arith)
+    free_tells_not l Nothing h = told_by NoFreePage (λ e. omega arith) h
 
-    final-tells : (l : Page) (hops : ℕ) → walk_of n img p ≡ Final l hops → (bit : Bool) → page_bit n DataProtection img l.0 ≡ bit
+    final_tells : (l : Page) (hops : ℕ) → walk_of n img p ≡ Final l hops → (bit : Bool) → page_bit n DataProtection img l.0 ≡ bit
         → Tells (cond bit (cond (page_bit n RedirectionProtection img l.0) (choice_free n kind.placement img l) (Refused (RedirectionProtected l))) (Refused (DataProtected l)))
         → Closed n img p values
     unfolding choice_free
-    final-tells l hops w true e h = free-tells-not l (target_by kind.placement n img l.0) (beyond (page_bit n RedirectionProtection img l.0) _ (RedirectionProtected l) (λ e. omega arith) h)
-    final-tells l hops w false e h = record { superseded = l; hops = hops; walk = w; protected = e; given = cc }
+    final_tells l hops w true e h = free_tells_not l (target_by kind.placement n img l.0) (beyond (page_bit n RedirectionProtection img l.0) _ (RedirectionProtected l) (λ e. omega arith) h)
+    final_tells l hops w false e h = record { superseded = l; hops = hops; walk = w; protected = e; given = cc }
 
-    walk-tells : (v : Verdict) → walk_of n img p ≡ v → Tells (choice_walked n kind.placement img v) → Closed n img p values
+    walk_tells : (v : Verdict) → walk_of n img p ≡ v → Tells (choice_walked n kind.placement img v) → Closed n img p values
     unfolding choice_walked choice_final
-    walk-tells (Final l hops) w h = final-tells l hops w (page_bit n DataProtection img l.0) refl h
-    walk-tells Loop w h = told-by Looping (λ e. omega arith) h
-    walk-tells (Outside x) w h = told-by (Leaving x) (λ e. omega arith) h
+    walk_tells (Final l hops) w h = final_tells l hops w (page_bit n DataProtection img l.0) refl h
+    walk_tells Loop w h = told_by Looping (λ e. omega arith) h
+    walk_tells (Outside x) w h = told_by (Leaving x) (λ e. omega arith) h
 
     tells : publisher_answer n kind img new p ≡ refused 20 values → Closed n img p values
     unfolding choice_of
     tells h =
-        walk-tells (walk_of n img p) refl
+        walk_tells (walk_of n img p) refl
         (beyond (is_page n p) _ PageNumber (λ e. omega arith)
         (beyond (eqb (length new) 32) _ BufferLength (λ e. omega arith)
         (beyond (is_image n img) _ ImageLength (λ e. omega arith) h)))
 
-  pub start-laws : StartLaws n kind img new p
-  start-laws =
+  pub start_laws : StartLaws n kind img new p
+  start_laws =
       record {
-        means = λ l t. chosen-means l t n kind img new p;
+        means = λ l t. chosen_means l t n kind img new p;
         accepts = chooses;
         closes = closing;
         only = tells;
-        image-length = other-image;
-        new-length = other-new;
-        page-number = other-page;
+        image_length = other_image;
+        new_length = other_new;
+        page_number_law = other_page;
         loops = looping;
         outside = λ x size long low. leaving size long low x;
         protected = λ l hops size long low. guarded size long low l hops;
-        none_free = λ l hops size long low. all-used size long low l hops;
+        none_free = λ l hops size long low. all_used size long low l hops;
       }

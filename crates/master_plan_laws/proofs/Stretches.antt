@@ -15,8 +15,8 @@ use Rattle.master_plan.specs.Plan.{step, freely, read_steps, step_events}
 use Rattle.chip_entries.specs.Run.{Chip, next, draws, run, answers, line_of}
 use Rattle.chip_session_laws.specs.Session.{Ready, Reaches}
 use Rattle.chip_session_laws.specs.Laws.{is_pulse, is_armed}
-use Rattle.chip_session_laws.proofs.Runs.{run-append}
-use Rattle.chip_session_laws.proofs.States.{keeps, image-kept}
+use Rattle.chip_session_laws.proofs.Runs.{run_append}
+use Rattle.chip_session_laws.proofs.States.{keeps, image_kept}
 use Rattle.master_plan_laws.specs.Plan.{Meets, Fits}
 
 -- the image is within P at first and after each event
@@ -31,21 +31,21 @@ pub record Stretch (P : List ℕ → Type 0) (n : ℕ) (c : Chip) (steps : List 
 
 -- ---- one stretch after the other
 
-pub events-append : (xs ys : List Step) → step_events (xs ++ ys) ≡ step_events xs ++ step_events ys
+pub events_append : (xs ys : List Step) → step_events (xs ++ ys) ≡ step_events xs ++ step_events ys
 unfolding step_events
-events-append [] ys = refl
-events-append (x ∷ xs) ys = ap (λ l. x.event ∷ l) (events-append xs ys)
+events_append [] ys = refl
+events_append (x ∷ xs) ys = ap (λ l. x.event ∷ l) (events_append xs ys)
 
-pub events-length : (steps : List Step) → length (step_events steps) ≡ length steps
+pub events_length : (steps : List Step) → length (step_events steps) ≡ length steps
 unfolding step_events
-events-length [] = refl
-events-length (s ∷ ss) = ap suc (events-length ss)
+events_length [] = refl
+events_length (s ∷ ss) = ap suc (events_length ss)
 
 module _ (n : ℕ) where
-  fits-append : (c : Chip) (xs ys : List Step) → Fits n c xs → Fits n (run n c (step_events xs)) ys → Fits n c (xs ++ ys)
+  fits_append : (c : Chip) (xs ys : List Step) → Fits n c xs → Fits n (run n c (step_events xs)) ys → Fits n c (xs ++ ys)
   unfolding Fits run step_events
-  fits-append c [] ys f g = g
-  fits-append c (x ∷ xs) ys f g = (f.0, fits-append (next n c x.event) xs ys f.1 g)
+  fits_append c [] ys f g = g
+  fits_append c (x ∷ xs) ys f g = (f.0, fits_append (next n c x.event) xs ys f.1 g)
 
   kept_append : (P : List ℕ → Type 0) (c : Chip) (xs ys : List Event) → Always P n c xs → Always P n (run n c xs) ys → Always P n c (xs ++ ys)
   unfolding Always run
@@ -57,38 +57,38 @@ module _ {P : List ℕ → Type 0} {n : ℕ} where
   pub ◌then◌ : {c d e : Chip} {xs ys : List Step} → Stretch P n c xs d → Stretch P n d ys e → Stretch P n c (xs ++ ys) e
   ◌then◌ {c} {d} {e} {xs} {ys} p q =
       record {
-        path = ap (run n c) (events-append xs ys) ∙ run-append n c (step_events xs) (step_events ys) ∙ ap (λ x. run n x (step_events ys)) p.path ∙ q.path;
-        fits = fits-append n c xs ys p.fits (subst (λ x. Fits n x ys) (sym p.path) q.fits);
+        path = ap (run n c) (events_append xs ys) ∙ run_append n c (step_events xs) (step_events ys) ∙ ap (λ x. run n x (step_events ys)) p.path ∙ q.path;
+        fits = fits_append n c xs ys p.fits (subst (λ x. Fits n x ys) (sym p.path) q.fits);
         kept =
-            subst (Always P n c) (sym (events-append xs ys))
+            subst (Always P n c) (sym (events_append xs ys))
             (kept_append n P c (step_events xs) (step_events ys) p.kept (subst (λ x. Always P n x (step_events ys)) (sym p.path) q.kept));
       }
 
 -- after any number of the events
-pub always-at : (P : List ℕ → Type 0) (n : ℕ) (es : List Event) (c : Chip) → Always P n c es → (m : ℕ) → P (run n c (take m es)).image
+pub always_at : (P : List ℕ → Type 0) (n : ℕ) (es : List Event) (c : Chip) → Always P n c es → (m : ℕ) → P (run n c (take m es)).image
 unfolding Always run
-always-at P n [] c h zero = h
-always-at P n [] c h (suc m) = h
-always-at P n (e ∷ es) c h zero = h.0
-always-at P n (e ∷ es) c h (suc m) = always-at P n es (next n c e) h.1 m
+always_at P n [] c h zero = h
+always_at P n [] c h (suc m) = h
+always_at P n (e ∷ es) c h zero = h.0
+always_at P n (e ∷ es) c h (suc m) = always_at P n es (next n c e) h.1 m
 
-any-image : (n : ℕ) (es : List Event) (c : Chip) → Always (λ _. Unit {0}) n c es
+any_image : (n : ℕ) (es : List Event) (c : Chip) → Always (λ _. Unit {0}) n c es
 unfolding Always
-any-image n [] c = tt
-any-image n (e ∷ es) c = (tt, any-image n es (next n c e))
+any_image n [] c = tt
+any_image n (e ∷ es) c = (tt, any_image n es (next n c e))
 
 -- where a stretch leads, the chip is within its ranges
-ready-run : (n : ℕ) → n % 8 ≡ 0 → (es : List Event) (c : Chip) → Ready n c → Ready n (run n c es)
+ready_run : (n : ℕ) → n % 8 ≡ 0 → (es : List Event) (c : Chip) → Ready n c → Ready n (run n c es)
 unfolding run
-ready-run n whole [] c ok = ok
-ready-run n whole (e ∷ es) c ok = ready-run n whole es (next n c e) (keeps n whole c e ok)
+ready_run n whole [] c ok = ok
+ready_run n whole (e ∷ es) c ok = ready_run n whole es (next n c e) (keeps n whole c e ok)
 
-pub still-ready : {P : List ℕ → Type 0} {n : ℕ} {c d : Chip} {steps : List Step} → n % 8 ≡ 0 → Ready n c → Stretch P n c steps d → Ready n d
-still-ready {n = n} {c} {d} {steps} whole ok s = subst (Ready n) s.path (ready-run n whole (step_events steps) c ok)
+pub still_ready : {P : List ℕ → Type 0} {n : ℕ} {c d : Chip} {steps : List Step} → n % 8 ≡ 0 → Ready n c → Stretch P n c steps d → Ready n d
+still_ready {n = n} {c} {d} {steps} whole ok s = subst (Ready n) s.path (ready_run n whole (step_events steps) c ok)
 
 -- where nothing is said of the image
 pub loosely : {P : List ℕ → Type 0} {n : ℕ} {c d : Chip} {steps : List Step} → Stretch P n c steps d → Stretch (λ _. Unit {0}) n c steps d
-loosely {n = n} {c} {d} {steps} s = record { path = s.path; fits = s.fits; kept = any-image n (step_events steps) c }
+loosely {n = n} {c} {d} {steps} s = record { path = s.path; fits = s.fits; kept = any_image n (step_events steps) c }
 
 -- ---- from a run and its replies
 
@@ -99,28 +99,28 @@ Quiet (s ∷ ss) [] = ⊥
 Quiet (s ∷ ss) (r ∷ rs) = Meets s.wanted r × (is_pulse s.event ≡ false) × Quiet ss rs
 
 -- slots whose replies are not looked at
-pub free-events : (bs : List Bool) → step_events (freely (slots bs)) ≡ slots bs
+pub free_events : (bs : List Bool) → step_events (freely (slots bs)) ≡ slots bs
 unfolding step_events
-free-events [] = refl
-free-events (b ∷ bs) = ap (λ l. slot b ∷ l) (free-events bs)
+free_events [] = refl
+free_events (b ∷ bs) = ap (λ l. slot b ∷ l) (free_events bs)
 
-pub free-quiet : (bs : List Bool) → Quiet (freely (slots bs)) bs
+pub free_quiet : (bs : List Bool) → Quiet (freely (slots bs)) bs
 unfolding Quiet
-free-quiet [] = tt
-free-quiet (b ∷ bs) = (tt, refl, free-quiet bs)
+free_quiet [] = tt
+free_quiet (b ∷ bs) = (tt, refl, free_quiet bs)
 
 -- read slots that draw the bits of v
-pub read-events : (last : Bool → Wanted) (k v : ℕ) → step_events (read_steps last k v) ≡ reading k
+pub read_events : (last : Bool → Wanted) (k v : ℕ) → step_events (read_steps last k v) ≡ reading k
 unfolding step_events read_steps
-read-events last zero v = refl
-read-events last (suc zero) v = refl
-read-events last (suc (suc k)) v = ap (λ l. read_slot ∷ l) (read-events last (suc k) (v / 2))
+read_events last zero v = refl
+read_events last (suc zero) v = refl
+read_events last (suc (suc k)) v = ap (λ l. read_slot ∷ l) (read_events last (suc k) (v / 2))
 
-pub read-quiet : (last : Bool → Wanted) → ((b : Bool) → Meets (last b) b) → (k v : ℕ) → Quiet (read_steps last k v) (bits_of k v)
+pub read_quiet : (last : Bool → Wanted) → ((b : Bool) → Meets (last b) b) → (k v : ℕ) → Quiet (read_steps last k v) (bits_of k v)
 unfolding Quiet read_steps bits_of
-read-quiet last meets zero v = tt
-read-quiet last meets (suc zero) v = (meets (odd v), refl, tt)
-read-quiet last meets (suc (suc k)) v = (refl, refl, read-quiet last meets (suc k) (v / 2))
+read_quiet last meets zero v = tt
+read_quiet last meets (suc zero) v = (meets (odd v), refl, tt)
+read_quiet last meets (suc (suc k)) v = (refl, refl, read_quiet last meets (suc k) (v / 2))
 
 module _ (n : ℕ) where
   fits_by : (c : Chip) (steps : List Step) (rs : List Bool) → answers n c (step_events steps) ≡ map accepted rs → Quiet steps rs → Fits n c steps
@@ -138,7 +138,7 @@ module _ (n : ℕ) where
   kept_by P c [] rs q h = h
   kept_by P c (s ∷ ss) [] q h = absurd q
   kept_by P c (s ∷ ss) (r ∷ rs) q h =
-      let same : (next n c s.event).image ≡ c.image = image-kept n c s.event (ap (λ b. b && is_armed c.state.stage) q.1) in
+      let same : (next n c s.event).image ≡ c.image = image_kept n c s.event (ap (λ b. b && is_armed c.state.stage) q.1) in
       (h, kept_by P (next n c s.event) ss rs q.2 (subst P (sym same) h))
 
 module _ (P : List ℕ → Type 0) {n : ℕ} {c d : Chip} where

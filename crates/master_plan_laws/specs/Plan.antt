@@ -34,7 +34,7 @@ Fits n c (s ∷ ss) = Meets s.wanted (line_at n c s.event) × Fits n (next n c s
 -- The start, lent the chip's own image and the new bytes, chose l and t for page p.
 pub record Accepts (n : ℕ) (kind : UpdateKind) (c : Chip) (new : List ℕ) (p : ℕ) (l t : Page) : Type 0 where
   pub ready : Ready n c
-  pub new-bytes : Bytes new
+  pub new_bytes : Bytes new
   pub chosen : choice_of n kind.placement c.image new p ≡ Accepted l t
 
 -- the plan that the start's state has
@@ -50,8 +50,8 @@ pub record PlanLaws (n : ℕ) (kind : UpdateKind) (c : Chip) (new : List ℕ) (p
   -- l is where p ends; t is another page than l and p; the new bytes are 32
   pub hops : ℕ
   pub asked : walk_of n c.image p ≡ final l.0 hops
-  pub superseded-page : l.0 < n
-  pub target-page : t.0 < n
+  pub superseded_page : l.0 < n
+  pub target_page : t.0 < n
   pub apart : p ≡ t.0 → ⊥
   pub long : length new ≡ 32
   -- so many events, and the one that shows is a pulse

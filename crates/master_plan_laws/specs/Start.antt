@@ -20,10 +20,10 @@ pub record Open (n : ℕ) (kind : UpdateKind) (img new : List ℕ) (p : ℕ) (l 
   pub hops : ℕ
   pub size : length img ≡ image_size n
   pub long : length new ≡ 32
-  pub on-chip : p < n
+  pub on_chip : p < n
   pub walk : walk_of n img p ≡ final l.0 hops
-  pub data-open : page_bit n DataProtection img l.0 ≡ true
-  pub redirection-open : page_bit n RedirectionProtection img l.0 ≡ true
+  pub data_open : page_bit n DataProtection img l.0 ≡ true
+  pub redirection_open : page_bit n RedirectionProtection img l.0 ≡ true
   pub found : target_by kind.placement n img l.0 ≡ At t
 
 -- Page p's band is closed: its chain ends at a page whose data are protected, and the values are that page.
@@ -39,9 +39,9 @@ pub record StartLaws (n : ℕ) (kind : UpdateKind) (img new : List ℕ) (p : ℕ
   pub means : (l t : Page) → choice_of n kind.placement img new p ≡ Accepted l t → Open n kind img new p l t
   pub accepts : (l t : Page) → Open n kind img new p l t → choice_of n kind.placement img new p ≡ Accepted l t
   -- the refusals in their order, each whatever those after it would say: 1, 10, 3, 4, 5, 20, 9, 8
-  pub image-length : (length img ≡ image_size n → ⊥) → publisher_answer n kind img new p ≡ refused 1 []
-  pub new-length : length img ≡ image_size n → (length new ≡ 32 → ⊥) → publisher_answer n kind img new p ≡ refused 10 []
-  pub page-number : length img ≡ image_size n → length new ≡ 32 → n ≤ p → publisher_answer n kind img new p ≡ refused 3 []
+  pub image_length : (length img ≡ image_size n → ⊥) → publisher_answer n kind img new p ≡ refused 1 []
+  pub new_length : length img ≡ image_size n → (length new ≡ 32 → ⊥) → publisher_answer n kind img new p ≡ refused 10 []
+  pub page_number_law : length img ≡ image_size n → length new ≡ 32 → n ≤ p → publisher_answer n kind img new p ≡ refused 3 []
   pub loops : length img ≡ image_size n → length new ≡ 32 → p < n → walk_of n img p ≡ verdicts.loops → publisher_answer n kind img new p ≡ refused 4 []
   pub outside : (x : ℕ) → length img ≡ image_size n → length new ≡ 32 → p < n → walk_of n img p ≡ verdicts.outside x → publisher_answer n kind img new p ≡ refused 5 (x ∷ [])
   -- a closed band is refused with 20 and its page, and 20 is told of no other

@@ -15,12 +15,12 @@ use Rattle.bus_events.specs.declared.Event.{Event}
 use Rattle.bus_events.specs.Events.{reset, power_loss}
 use Rattle.base_types.specs.Verdict.{final}
 use Rattle.chip_chain.specs.Walk.{walk_of}
-use Rattle.chip_memory.proofs.Pages.{copied-same}
+use Rattle.chip_memory.proofs.Pages.{copied_same}
 use Rattle.chip_chain_laws.specs.Update.{read_of, moved, moved_by}
 use Rattle.bus_scripts.specs.Next.{Next, send, tells, out_of}
 use Rattle.bus_scripts.specs.Joint.{Begins, Good}
 use Rattle.bus_scripts.specs.Script.{play, telling, play_on, Played}
-use Rattle.bus_scripts.proofs.Orders.{telling-all, stopped-told}
+use Rattle.bus_scripts.proofs.Orders.{telling_all, stopped_told}
 use Rattle.master_plan.specs.declared.kind.UpdateKind.{UpdateKind}
 use Rattle.master_plan.specs.Kind.{total_of, shown_of}
 use Rattle.master_plan.specs.Plan.{plan_of, step_events}
@@ -32,30 +32,30 @@ use Rattle.master_publisher.specs.Stop.{publisher_refusal}
 use Rattle.master_publisher.specs.Code.Turn.{plan_in}
 use Rattle.chip_entries.specs.Run.{Chip, next, line_at, run}
 use Rattle.chip_session_laws.specs.Session.{Ready, Bytes}
-use Rattle.chip_session_laws.proofs.Runs.{run-append}
-use Rattle.chip_session_laws.proofs.States.{image-kept}
+use Rattle.chip_session_laws.proofs.Runs.{run_append}
+use Rattle.chip_session_laws.proofs.States.{image_kept}
 use Rattle.master_plan_laws.specs.Plan.{Fits, Accepts, plan_for, PlanLaws}
-use Rattle.master_plan_laws.proofs.Starts.{chosen-means}
-use Rattle.master_plan_laws.proofs.Laws.{plan-laws}
-use Rattle.master_plan_laws.proofs.Stretches.{events-length}
+use Rattle.master_plan_laws.proofs.Starts.{chosen_means}
+use Rattle.master_plan_laws.proofs.Laws.{plan_laws}
+use Rattle.master_plan_laws.proofs.Stretches.{events_length}
 use Rattle.master_call_laws.specs.Script.{publisher_script}
 use Rattle.master_call_laws.specs.Calls.{update_answers, Started, script_in, events_in}
-use Rattle.master_call_laws.proofs.Laws.{call-laws}
-use Rattle.master_call_laws.proofs.Plays.{chip-played}
+use Rattle.master_call_laws.proofs.Laws.{call_laws}
+use Rattle.master_call_laws.proofs.Plays.{chip_played}
 use Rattle.master_publisher_laws.specs.Demand.{returned, reaching, read_after, Update, Demand3, Demand3Of}
 
 -- a power loss leaves the image
-cut-image : (n : ℕ) (c : Chip) (events : List Event) (m : ℕ) (cut : Bool)
+cut_image : (n : ℕ) (c : Chip) (events : List Event) (m : ℕ) (cut : Bool)
     → (run n c (reaching events m cut)).image ≡ (run n c (take m events)).image
-cut-image n c events m false = refl
-cut-image n c events m true =
-    ap (λ (d : Chip). d.image) (run-append n c (take m events) (power_loss ∷ []))
-    ∙ unfold run in image-kept n (run n c (take m events)) power_loss refl
+cut_image n c events m false = refl
+cut_image n c events m true =
+    ap (λ (d : Chip). d.image) (run_append n c (take m events) (power_loss ∷ []))
+    ∙ unfold run in image_kept n (run n c (take m events)) power_loss refl
 
 -- a page that ended at l reads as the new page
-moved-final : (n : ℕ) (img new : List ℕ) (p : ℕ) (l : Page) (t hops : ℕ) → walk_of n img p ≡ final l.0 hops
+moved_final : (n : ℕ) (img new : List ℕ) (p : ℕ) (l : Page) (t hops : ℕ) → walk_of n img p ≡ final l.0 hops
     → moved l.0 t new (read_of n img p) ≡ record { verdict = final t (hops + 1); bytes = new }
-moved-final n img new p l t hops e =
+moved_final n img new p l t hops e =
     ap (λ v. moved_by l.0 t new (read_of n img p) v) e ∙ simp (eq-eqb l.0 l.0 refl)
 
 module _ (n : ℕ) (whole : n % 8 ≡ 0) (some : 0 < n) (low : n ≤ 256) (kind : UpdateKind) (c : Chip) (new : List ℕ) (p : ℕ) (replies : List Bool) where
@@ -64,19 +64,19 @@ module _ (n : ℕ) (whole : n % 8 ≡ 0) (some : 0 < n) (low : n ≤ 256) (kind 
     state = ready n kind c.image new l t
 
     laws : PlanLaws n kind c new p l t
-    laws = plan-laws n kind c new p l t whole low ok
+    laws = plan_laws n kind c new p l t whole low ok
 
     same : plan_in state ≡ plan_for n kind c new l t
     unfolding ready
-    same = ap (plan_of kind l.0 t.0 (bitmap_byte n c.image t.0)) (copied-same new (replicate 32 0) laws.long)
+    same = ap (plan_of kind l.0 t.0 (bitmap_byte n c.image t.0)) (copied_same new (replicate 32 0) laws.long)
 
     started : Started n state
     unfolding ready choice_state
     started =
         record {
           stage = refl;
-          ranged = rw ok.chosen at ((call-laws n some).starts kind c.image new p);
-          long = ap length (copied-same new (replicate 32 0) laws.long) ∙ laws.long;
+          ranged = rw ok.chosen at ((call_laws n some).starts kind c.image new p);
+          long = ap length (copied_same new (replicate 32 0) laws.long) ∙ laws.long;
         }
 
     abbrev end : Outcome Next
@@ -85,33 +85,33 @@ module _ (n : ℕ) (whole : n % 8 ≡ 0) (some : 0 < n) (low : n ≤ 256) (kind 
     -- on the chip, the script sends all its events and tells l and t
     played : play_on (next n) (line_at n) (script_in state) c ≡ record { events = events_in state; told = end; bytes = [] }
     unfolding ready
-    played = chip-played n state c (subst (Fits n c) (sym same) laws.fits)
+    played = chip_played n state c (subst (Fits n c) (sym same) laws.fits)
 
-    pub events-are : events_in state ≡ step_events (plan_for n kind c new l t)
-    events-are = ap step_events same
+    pub events_are : events_in state ≡ step_events (plan_for n kind c new l t)
+    events_are = ap step_events same
 
     size : length (events_in state) ≡ total_of kind
-    size = ap length events-are ∙ events-length (plan_for n kind c new l t) ∙ laws.counted
+    size = ap length events_are ∙ events_length (plan_for n kind c new l t) ∙ laws.counted
 
     -- with good replies, however many
-    pub joined-tells : Good (next n) (line_at n) out_of c (update_answers n state replies) replies → update_answers n state replies ≡ telling (events_in state) end (length replies)
-    joined-tells good =
-        (call-laws n some).plays-on (next n) (line_at n) state c replies started good ∙ ap (λ (q : Played). telling q.events q.told (length replies)) played
+    pub joined_tells : Good (next n) (line_at n) out_of c (update_answers n state replies) replies → update_answers n state replies ≡ telling (events_in state) end (length replies)
+    joined_tells good =
+        (call_laws n some).plays_on (next n) (line_at n) state c replies started good ∙ ap (λ (q : Played). telling q.events q.told (length replies)) played
 
     first_of : Begins (events_in state) (returned n state replies)
-    first_of = (call-laws n some).ordered state replies started
+    first_of = (call_laws n some).ordered state replies started
 
     reads : (m : ℕ) (cut : Bool) → m ≤ length (returned n state replies) → (q : ℕ) → q < n → (q ≡ t.0 → ⊥)
         → read_after n c (returned n state replies) m cut q
         ≡ cond (ltb m (shown_of kind)) (read_of n c.image q) (moved l.0 t.0 new (read_of n c.image q))
     reads m cut le q lt d =
         let takes : take m (returned n state replies) ≡ take m (step_events (plan_for n kind c new l t)) =
-        sym (take-append-le m (returned n state replies) first_of.rest le) ∙ ap (take m) (sym first_of.is ∙ events-are) in
-        ap (λ (img : List ℕ). read_of n img q) (cut-image n c (returned n state replies) m cut ∙ ap (λ (es : List Event). (run n c es).image) takes)
+        sym (take-append-le m (returned n state replies) first_of.rest le) ∙ ap (take m) (sym first_of.is ∙ events_are) in
+        ap (λ (img : List ℕ). read_of n img q) (cut_image n c (returned n state replies) m cut ∙ ap (λ (es : List Event). (run n c es).image) takes)
         ∙ laws.reads m q lt d
 
     below : p < n
-    below = (chosen-means l t n kind c.image new p ok.chosen).on-chip
+    below = (chosen_means l t n kind c.image new p ok.chosen).on_chip
 
     update : Update n kind c new p state replies
     unfolding ready
@@ -123,14 +123,14 @@ module _ (n : ℕ) (whole : n % 8 ≡ 0) (some : 0 < n) (low : n ≤ 256) (kind 
           reads = reads;
           old = λ m cut le lt. reads m cut le p below laws.apart ∙ simp (lt-ltb m (shown_of kind) lt);
           changed = λ m cut le ge.
-              reads m cut le p below laws.apart ∙ simp (le-ltb m (shown_of kind) ge) (moved-final n c.image new p l t.0 laws.hops laws.asked);
+              reads m cut le p below laws.apart ∙ simp (le-ltb m (shown_of kind) ge) (moved_final n c.image new p l t.0 laws.hops laws.asked);
           ordered = first_of;
           counted = size;
           scripted = played;
-          shows = ap (λ (es : List Event). get_or es (shown_of kind - 1) reset) events-are ∙ laws.shows;
+          shows = ap (λ (es : List Event). get_or es (shown_of kind - 1) reset) events_are ∙ laws.shows;
           ends = λ good enough.
-              joined-tells good
-              ∙ telling-all (events_in state) end (length replies) (omega (arith, size))
+              joined_tells good
+              ∙ telling_all (events_in state) end (length replies) (omega (arith, size))
               ∙ ap (λ (k : ℕ). map (λ (e : Event). accepted (send e)) (events_in state) ++ replicate (length replies - k) end) size;
         }
 
@@ -140,7 +140,7 @@ module _ (n : ℕ) (whole : n % 8 ≡ 0) (some : 0 < n) (low : n ≤ 256) (kind 
   accepts : Ready n c → Bytes new → (ch : Choice) → choice ≡ ch → choice_outcome ch ≡ accepted []
       → Update n kind c new p (choice_state n kind c.image new ch) replies
   unfolding choice_state
-  accepts ok small (Accepted l t) e a = update l t (record { ready = ok; new-bytes = small; chosen = e })
+  accepts ok small (Accepted l t) e a = update l t (record { ready = ok; new_bytes = small; chosen = e })
   accepts ok small (Refused r) e a = absurd (let y : ◌≡◌ {A = ℕ} 0 1 = cc in omega arith)
 
   refuses : (k : ℕ) (values : List ℕ) (ch : Choice) → choice ≡ ch → choice_outcome ch ≡ refused k values
@@ -149,9 +149,9 @@ module _ (n : ℕ) (whole : n % 8 ≡ 0) (some : 0 < n) (low : n ≤ 256) (kind 
   refuses k values (Refused r) e a =
       let number : number_of (publisher_refusal r) ≡ k = cc in
       let given : values_of (publisher_refusal r) ≡ values = cc in
-      (call-laws n some).plays kind c.image new p replies
+      (call_laws n some).plays kind c.image new p replies
       ∙ ap (λ (ch : Choice). play (publisher_script n kind c.image new ch) replies) e
-      ∙ stopped-told (number_of (publisher_refusal r)) (values_of (publisher_refusal r)) replies
+      ∙ stopped_told (number_of (publisher_refusal r)) (values_of (publisher_refusal r)) replies
       ∙ ap₂ (λ (x : ℕ) (v : List ℕ). replicate {A = Outcome Next} (length replies) (refused x v)) number given
 
   demands : Ready n c → Bytes new → Demand3 n kind c new p replies
@@ -161,9 +161,9 @@ module _ (n : ℕ) (whole : n % 8 ≡ 0) (some : 0 < n) (low : n ≤ 256) (kind 
         refusal = λ k values a. refuses k values choice refl a;
       }
 
-pub demand-3 : (n : ℕ) → n % 8 ≡ 0 → 0 < n → n ≤ 256 → Demand3Of n
-demand-3 n whole some low kind c new p replies ok small = demands n whole some low kind c new p replies ok small
+pub demand_3 : (n : ℕ) → n % 8 ≡ 0 → 0 < n → n ≤ 256 → Demand3Of n
+demand_3 n whole some low kind c new p replies ok small = demands n whole some low kind c new p replies ok small
 
 -- at the DS2505's 64 pages
-pub demand-3-ds2505 : Demand3Of 64
-demand-3-ds2505 = demand-3 64 refl (lit< tt) (lit≤ tt)
+pub demand_3_ds2505 : Demand3Of 64
+demand_3_ds2505 = demand_3 64 refl (lit< tt) (lit≤ tt)

@@ -38,9 +38,9 @@ module _ (n : ℕ) (img : List ℕ) (p : ℕ) (lent : List ℕ) where
     ),
   )
 
-  pub when-refused : (r : Refusal) → refusing r ≡ reading_judged n img p lent → Answers (refusing r) 0 lent
-  when-refused r e = by (refusing r) e
+  pub when_refused : (r : Refusal) → refusing r ≡ reading_judged n img p lent → Answers (refusing r) 0 lent
+  when_refused r e = by (refusing r) e
 
-  pub when-accepted : accepted done ≡ reading_judged n img p lent
+  pub when_accepted : accepted done ≡ reading_judged n img p lent
       → Answers (verdict_outcome (walk_of n img p)) (length (page_events_for n img p)) (left_in (verdict_bytes (walk_of n img p) img) lent)
-  when-accepted e = by (accepted done) e
+  when_accepted e = by (accepted done) e

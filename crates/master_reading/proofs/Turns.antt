@@ -12,7 +12,7 @@ use Rattle.bus_events.specs.declared.Event.{Event}
 use Rattle.bus_scripts.specs.Next.{Next, send, tells, out_of, events_of}
 use Rattle.bus_scripts.specs.Joint.{event, quiet, reached, drew, drawn_replies}
 use Rattle.bus_scripts.specs.Script.{left_in, telling, leaving}
-use Rattle.bus_scripts.proofs.Scripts.{script-laws}
+use Rattle.bus_scripts.proofs.Scripts.{script_laws}
 use Rattle.chip_chain.specs.Walk.{walk_of}
 use Rattle.chip_entries.specs.declared.event.State.{State}
 use Rattle.chip_entries.specs.Event.{power_up}
@@ -25,7 +25,7 @@ use Rattle.master_page.specs.PageRead.{start_state}
 use Rattle.master_page_laws.specs.Heard.{page_events_for}
 use Rattle.master_page.specs.Held.{PageHeld, page_told, page_called, page_started}
 use Rattle.master_page_laws.specs.Laws.{PageJoined, page_answers_to, page_after, verdict_outcome, verdict_bytes}
-use Rattle.master_page_laws.proofs.Ds2505.{page-read}
+use Rattle.master_page_laws.proofs.Ds2505.{page_read}
 
 -- the replies that so many further calls get
 abbrev drawn_for : ℕ → PageHeld → Chip → Bool → List Bool
@@ -39,13 +39,13 @@ abbrev bytes_at_end : List ℕ → ℕ → List ℕ
 bytes_at_end img p = verdict_bytes (walk_of 64 img p) img
 
 -- a verdict tells no event
-quiet-end : (v : Verdict) → out_of (verdict_outcome v) ≡ quiet
-quiet-end (Final p hops) = refl
-quiet-end Loop = refl
-quiet-end (Outside k) = refl
+quiet_end : (v : Verdict) → out_of (verdict_outcome v) ≡ quiet
+quiet_end (Final p hops) = refl
+quiet_end Loop = refl
+quiet_end (Outside k) = refl
 
-no-event : (a : Outcome Next) (f : Event) → out_of a ≡ quiet → a ≡ accepted (send f) → ⊥
-no-event a f silent is = let e : out_of a ≡ event f = ap out_of is in let z : ◌≡◌ {A = ℕ} 0 1 = cc in omega arith
+no_event : (a : Outcome Next) (f : Event) → out_of a ≡ quiet → a ≡ accepted (send f) → ⊥
+no_event a f silent is = let e : out_of a ≡ event f = ap out_of is in let z : ◌≡◌ {A = ℕ} 0 1 = cc in omega arith
 
 -- The read of page p into a buffer, with so many events sent: these are left. Further calls send them and then tell the end, hand the
 -- bytes over with it, and leave the image.
@@ -77,7 +77,7 @@ module _ (img lent : List ℕ) (p sent : ℕ) (h : PageHeld) (c : Chip) (r : Boo
           → ((m : ℕ) → page_answers_to 64 h (drawn_for m h c r) ≡ telling left (told_at_end img p) m)
           → ((m : ℕ) → (page_after 64 h (drawn_for m h c r)).buffer ≡ leaving left (bytes_at_end img p) m lent)
           → UnderWay img lent p (sent + 1) (page_called 64 h r) (next 64 c e) (line_at 64 c e)
-      go [] n t l = let first = t 1 in absurd (no-event (told_at_end img p) e (quiet-end (walk_of 64 img p)) cc)
+      go [] n t l = let first = t 1 in absurd (no_event (told_at_end img p) e (quiet_end (walk_of 64 img p)) cc)
       go (f ∷ left) n t l =
           record {
             left = left;
@@ -107,14 +107,14 @@ module _ (img lent : List ℕ) (p sent : ℕ) (h : PageHeld) (c : Chip) (r : Boo
           → ((m : ℕ) → (page_after 64 h (drawn_for m h c r)).buffer ≡ leaving left (bytes_at_end img p) m lent)
           → AtEnd img lent p sent a (page_called 64 h r).buffer c.image
       go [] n t l = let first = t 1 in record { ends = cc; all = omega (arith, n); handed = l 1; kept = w.keeps 0 }
-      go (f ∷ left) n t l = let first = t 1 in absurd (no-event a f silent cc)
+      go (f ∷ left) n t l = let first = t 1 in absurd (no_event a f silent cc)
 
 -- ---- the start
 
-all-events : (es : List Event) (end : Outcome Next) → events_of (telling es end (length es)) ≡ es
+all_events : (es : List Event) (end : Outcome Next) → events_of (telling es end (length es)) ≡ es
 unfolding telling events_of
-all-events [] end = refl
-all-events (e ∷ es) end = ap (λ (l : List Event). e ∷ l) (all-events es end)
+all_events [] end = refl
+all_events (e ∷ es) end = ap (λ (l : List Event). e ∷ l) (all_events es end)
 
 module _ (number img lent : List ℕ) (p : ℕ) (sized : length img ≡ image_size 64) (small : Bytes img) (eight : length number ≡ 8) (inside : p < 64)
     (room : length lent ≡ 32) where
@@ -127,11 +127,11 @@ module _ (number img lent : List ℕ) (p : ℕ) (sized : length img ≡ image_si
   -- the drawn replies are good, and are as many as asked for
   joins : (m : ℕ) → PageJoined 64 chip p lent (drawn m)
   joins m =
-      page-read.joined chip p lent (drawn m) (states.power-up number img sized eight) small inside room
-      (script-laws.drawn (next 64) (line_at 64) (page_called 64) (page_told 64) (page_started 64 p lent) chip true m).1
+      page_read.joined chip p lent (drawn m) (states.power_up_law number img sized eight) small inside room
+      (script_laws.drawn (next 64) (line_at 64) (page_called 64) (page_told 64) (page_started 64 p lent) chip true m).1
 
   as_many_lem : (m : ℕ) → length (drawn m) ≡ m
-  as_many_lem m = (script-laws.drawn (next 64) (line_at 64) (page_called 64) (page_told 64) (page_started 64 p lent) chip true m).0
+  as_many_lem m = (script_laws.drawn (next 64) (line_at 64) (page_called 64) (page_told 64) (page_started 64 p lent) chip true m).0
 
   tells_all : (m : ℕ) → page_answers_to 64 (page_started 64 p lent) (drawn m) ≡ telling (page_events_for 64 img p) (told_at_end img p) m
   tells_all m = (joins m).answers ∙ ap (telling (page_events_for 64 img p) (told_at_end img p)) (as_many_lem m)
@@ -143,16 +143,16 @@ module _ (number img lent : List ℕ) (p : ℕ) (sized : length img ≡ image_si
         counted = omega arith;
         telled = tells_all;
         leaves = λ m. (joins m).buffer ∙ ap (λ (k : ℕ). leaving (page_events_for 64 img p) (bytes_at_end img p) k lent) (as_many_lem m);
-        keeps = λ m. page-read.image-stays chip p lent (drawn m) room;
+        keeps = λ m. page_read.image_stays chip p lent (drawn m) room;
       }
 
-  pub begins-as : (s : PageRead) (cs : State) → s ≡ start_state 64 p → cs ≡ power_up number
+  pub begins_as : (s : PageRead) (cs : State) → s ≡ start_state 64 p → cs ≡ power_up number
       → UnderWay img lent p 0 (record { state = s; buffer = lent }) (record { state = cs; image = img }) true
-  begins-as s cs es ec = rw (es, ec) begins
+  begins_as s cs es ec = rw (es, ec) begins
 
   pub at_most : length (page_events_for 64 img p) ≤ 3921
   at_most =
       let all = length (page_events_for 64 img p) in
       let e : events_of (page_answers_to 64 (page_started 64 p lent) (drawn all)) ≡ page_events_for 64 img p =
-      ap events_of (tells_all all) ∙ all-events (page_events_for 64 img p) (told_at_end img p) in
-      rw e at (page-read.at_most p lent (drawn all) room)
+      ap events_of (tells_all all) ∙ all_events (page_events_for 64 img p) (told_at_end img p) in
+      rw e at (page_read.at_most p lent (drawn all) room)

@@ -12,7 +12,7 @@ use Rattle.master_runs.specs.Calls.{as_many}
 pub room : (ranges : Bool) (codes events : List ℕ) → in_order true ranges (as_many codes events) ≡ accepted done → length events ≡ length codes
 room ranges codes events e = eqb-true _ _ (in_order_lem true ranges (as_many codes events) e).1.1
 
-pub room-beside : (ranges : Bool) (codes events : List ℕ) (other : Bool)
+pub room_beside : (ranges : Bool) (codes events : List ℕ) (other : Bool)
     → in_order true ranges (as_many codes events && other) ≡ accepted done → length events ≡ length codes
-room-beside ranges codes events other e =
+room_beside ranges codes events other e =
     eqb-true _ _ (and_left (as_many codes events) other (in_order_lem true ranges (as_many codes events && other) e).1.1)

@@ -10,14 +10,14 @@ use lib.Seq.{drop-cons}
 use Rattle.master_runs.specs.Calls.{are_replies}
 
 module _ (codes : List ℕ) (i : ℕ) where
-  pub replies-next : i < length codes → ltb (get_or codes i 0) 2 ≡ true → are_replies (drop (i + 1) codes) ≡ are_replies (drop i codes)
+  pub replies_next : i < length codes → ltb (get_or codes i 0) 2 ≡ true → are_replies (drop (i + 1) codes) ≡ are_replies (drop i codes)
   unfolding are_replies
-  replies-next h e = ap (λ (k : ℕ). are_replies (drop k codes)) (add-one i) ∙ sym (ap are_replies (drop-cons codes i 0 h) ∙ simp e)
+  replies_next h e = ap (λ (k : ℕ). are_replies (drop k codes)) (add-one i) ∙ sym (ap are_replies (drop-cons codes i 0 h) ∙ simp e)
 
-  pub replies-not : i < length codes → ltb (get_or codes i 0) 2 ≡ false → false ≡ are_replies (drop i codes)
+  pub replies_not : i < length codes → ltb (get_or codes i 0) 2 ≡ false → false ≡ are_replies (drop i codes)
   unfolding are_replies
-  replies-not h e = sym (ap are_replies (drop-cons codes i 0 h) ∙ simp e)
+  replies_not h e = sym (ap are_replies (drop-cons codes i 0 h) ∙ simp e)
 
-  pub replies-end : length codes ≤ i → true ≡ are_replies (drop i codes)
+  pub replies_end : length codes ≤ i → true ≡ are_replies (drop i codes)
   unfolding are_replies
-  replies-end h = sym (ap are_replies (drop_of_length-le codes h))
+  replies_end h = sym (ap are_replies (drop_of_length-le codes h))

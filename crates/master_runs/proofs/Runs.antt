@@ -29,22 +29,22 @@ module _ {S : Type 0} (call : S → Bool → S) (told : S → Bool → Outcome N
 
   -- ---- one reply more
 
-  state-next : (s : S) (codes : List ℕ) (i : ℕ) → i < length codes
+  state_next : (s : S) (codes : List ℕ) (i : ℕ) → i < length codes
       → state_by (call s (reply_at (get_or codes i 0))) (drop (i + 1) codes) ≡ state_by s (drop i codes)
-  state-next s codes i h =
+  state_next s codes i h =
       ap (λ (k : ℕ). state_by (call s (reply_at (get_or codes i 0))) (drop k codes)) (add-one i) ∙ sym (ap (state_by s) (drop-cons codes i 0 h))
 
-  events-next : (s : S) (codes events : List ℕ) (i : ℕ) → i < length codes
+  events_next : (s : S) (codes events : List ℕ) (i : ℕ) → i < length codes
       → filled (set events i (call_code (told s (reply_at (get_or codes i 0))))) (i + 1)
       (map call_code (outcome_by (call s (reply_at (get_or codes i 0))) (drop (i + 1) codes)))
       ≡ filled events i (map call_code (outcome_by s (drop i codes)))
-  events-next s codes events i h = sym (ap (λ (l : List (Outcome Next)). filled events i (map call_code l)) (first s codes i h))
+  events_next s codes events i h = sym (ap (λ (l : List (Outcome Next)). filled events i (map call_code l)) (first s codes i h))
 
-  last-next : (s : S) (codes : List ℕ) (i : ℕ) (t : Outcome Next) → i < length codes
+  last_next : (s : S) (codes : List ℕ) (i : ℕ) (t : Outcome Next) → i < length codes
       → last_from (told s (reply_at (get_or codes i 0))) (outcome_by (call s (reply_at (get_or codes i 0))) (drop (i + 1) codes))
       ≡ last_from t (outcome_by s (drop i codes))
   unfolding last_from
-  last-next s codes i t h = sym (ap (last_from t) (first s codes i h))
+  last_next s codes i t h = sym (ap (last_from t) (first s codes i h))
 
   -- ---- a run
 
@@ -62,15 +62,15 @@ module _ {S : Type 0} (call : S → Bool → S) (told : S → Bool → Outcome N
       → Midway s₀ codes events₀ (i + 1) s' t' events'
   midway s₀ codes events₀ i s t events h m s' t' events' es et ee =
       record {
-        left = ap (λ (x : S). state_by x (drop (i + 1) codes)) es ∙ state-next s codes i h ∙ m.left;
+        left = ap (λ (x : S). state_by x (drop (i + 1) codes)) es ∙ state_next s codes i h ∙ m.left;
         last =
             ap₂ (λ (x : Outcome Next) (y : S). last_from x (outcome_by y (drop (i + 1) codes))) et es
-            ∙ last-next s codes i t h
+            ∙ last_next s codes i t h
             ∙ m.last;
         written =
             ap₂ (λ (x : List ℕ) (y : S). filled x (i + 1) (map call_code (outcome_by y (drop (i + 1) codes))))
             (ee ∙ ap (λ (x : Outcome Next). set events i (call_code x)) et) es
-            ∙ events-next s codes events i h
+            ∙ events_next s codes events i h
             ∙ m.written;
       }
 

@@ -14,8 +14,8 @@ use Rattle.base_types.specs.Refusal.{number_of, values_of}
 use Rattle.master_plan.specs.declared.kind.UpdateKind.{UpdateKind}
 use Rattle.bus_events.specs.declared.Event.{Event}
 use Rattle.bus_scripts.specs.Next.{events_of}
-use Rattle.bus_scripts.proofs.Scripts.{script-laws}
-use Rattle.bus_scripts.proofs.Orders.{telling-events}
+use Rattle.bus_scripts.proofs.Scripts.{script_laws}
+use Rattle.bus_scripts.proofs.Orders.{telling_events}
 use Rattle.chip_chain_laws.specs.Update.{read_of, moved}
 use Rattle.master_plan.specs.Kind.{total_of, shown_of}
 use Rattle.master_publisher.specs.declared.Choice.{Choice}
@@ -31,14 +31,14 @@ use Rattle.chip_session_laws.specs.Session.{Bytes}
 use Rattle.chip_session_laws.proofs.Ds2505.{states}
 use Rattle.master_plan.specs.Plan.{step_events}
 use Rattle.master_plan_laws.specs.Plan.{Accepts, plan_for, image_left, PlanLaws}
-use Rattle.master_plan_laws.proofs.Starts.{chosen-means}
-use Rattle.master_plan_laws.proofs.Laws.{plan-laws}
-use Rattle.master_plan_laws.proofs.Stretches.{events-length}
+use Rattle.master_plan_laws.proofs.Starts.{chosen_means}
+use Rattle.master_plan_laws.proofs.Laws.{plan_laws}
+use Rattle.master_plan_laws.proofs.Stretches.{events_length}
 use Rattle.master_call_laws.specs.Calls.{events_in}
-use Rattle.master_publisher_laws.proofs.Demand.{events-are, joined-tells}
+use Rattle.master_publisher_laws.proofs.Demand.{events_are, joined_tells}
 use Rattle.master_update.specs.declared.Joined.{Joined}
 use Rattle.master_update.specs.Update.{is_running, replies_for, run_for, opened, choice_answer, update_answer, updated_image, ReadsAs}
-use Rattle.master_update.proofs.Runs.{run-ended}
+use Rattle.master_update.proofs.Runs.{run_ended}
 
 -- ---- an accepted update
 
@@ -50,29 +50,29 @@ module _ (kind : UpdateKind) (c : Chip) (new : List ℕ) (p : ℕ) (l t : Page) 
   pair = record { publisher = state; chip = c.state; reply = true }
 
   laws : PlanLaws 64 kind c new p l t
-  laws = plan-laws 64 kind c new p l t refl (lit≤ tt) ok
+  laws = plan_laws 64 kind c new p l t refl (lit≤ tt) ok
 
   -- the drawn replies are good, so that so many calls return so many of the update's events
-  run-image : (k : ℕ) → run_for 64 k pair c.image ≡ (run 64 c (take k (step_events (plan_for 64 kind c new l t)))).image
+  run_image : (k : ℕ) → run_for 64 k pair c.image ≡ (run 64 c (take k (step_events (plan_for 64 kind c new l t)))).image
   unfolding run_for
-  run-image k =
+  run_image k =
       let drawn = replies_for 64 k pair c.image in
-      let good = script-laws.drawn (next 64) (line_at 64) (call_state 64) (call_answer 64) state c true k in
+      let good = script_laws.drawn (next 64) (line_at 64) (call_state 64) (call_answer 64) state c true k in
       ap (λ (es : List Event). (run 64 c es).image)
-      (ap events_of (joined-tells 64 refl (lit< tt) (lit≤ tt) kind c new p drawn l t ok good.1)
-      ∙ telling-events (events_in state) (l.0 ∷ t.0 ∷ []) (length drawn)
-      ∙ ap₂ (λ (m : ℕ) (es : List Event). take m es) good.0 (events-are 64 refl (lit< tt) (lit≤ tt) kind c new p drawn l t ok))
+      (ap events_of (joined_tells 64 refl (lit< tt) (lit≤ tt) kind c new p drawn l t ok good.1)
+      ∙ telling_events (events_in state) (l.0 ∷ t.0 ∷ []) (length drawn)
+      ∙ ap₂ (λ (m : ℕ) (es : List Event). take m es) good.0 (events_are 64 refl (lit< tt) (lit≤ tt) kind c new p drawn l t ok))
 
-  pub run-whole : (k : ℕ) → total_of kind ≤ k → run_for 64 k pair c.image ≡ image_left 64 c.image new l t
-  run-whole k le =
+  pub run_whole : (k : ℕ) → total_of kind ≤ k → run_for 64 k pair c.image ≡ image_left 64 c.image new l t
+  run_whole k le =
       let plan = step_events (plan_for 64 kind c new l t) in
-      run-image k
-      ∙ ap (λ (es : List Event). (run 64 c es).image) (take_all k plan (omega (arith, events-length (plan_for 64 kind c new l t), laws.counted)))
+      run_image k
+      ∙ ap (λ (es : List Event). (run 64 c es).image) (take_all k plan (omega (arith, events_length (plan_for 64 kind c new l t), laws.counted)))
       ∙ laws.leaves
 
-  pub run-reads : (k q : ℕ) → q < 64 → (q ≡ t.0 → ⊥)
+  pub run_reads : (k q : ℕ) → q < 64 → (q ≡ t.0 → ⊥)
       → read_of 64 (run_for 64 k pair c.image) q ≡ cond (ltb k (shown_of kind)) (read_of 64 c.image q) (moved l.0 t.0 new (read_of 64 c.image q))
-  run-reads k q lt d = ap (λ (img : List ℕ). read_of 64 img q) (run-image k) ∙ laws.reads k q lt d
+  run_reads k q lt d = ap (λ (img : List ℕ). read_of 64 img q) (run_image k) ∙ laws.reads k q lt d
 
 -- ---- the whole function
 
@@ -81,35 +81,35 @@ module _ (kind : UpdateKind) (number img new : List ℕ) (p events : ℕ) (eight
   abbrev image_by : Choice → List ℕ
   image_by ch = run_for 64 events (opened (choice_state 64 kind img new ch) number) img
 
-  image-refused : (ch : Choice) (k : ℕ) (values : List ℕ) → choice_answer ch ≡ refused k values → image_by ch ≡ img
+  image_refused : (ch : Choice) (k : ℕ) (values : List ℕ) → choice_answer ch ≡ refused k values → image_by ch ≡ img
   unfolding choice_state stopped_by is_running
-  image-refused (Refused r) k values e = run-ended 64 events (opened (stopped_by kind r) number) img refl
-  image-refused (Accepted l t) k values e = absurd (let z : ◌≡◌ {A = ℕ} 0 1 = cc in omega arith)
+  image_refused (Refused r) k values e = run_ended 64 events (opened (stopped_by kind r) number) img refl
+  image_refused (Accepted l t) k values e = absurd (let z : ◌≡◌ {A = ℕ} 0 1 = cc in omega arith)
 
   chosen : (l t : Page) → choice_of 64 kind.placement img new p ≡ Accepted l t → Accepts 64 kind (record { state = power_up number; image = img }) new p l t
   chosen l t e =
-      record { ready = states.power-up number img (chosen-means l t 64 kind img new p e).size eight; new-bytes = small; chosen = e }
+      record { ready = states.power_up_law number img (chosen_means l t 64 kind img new p e).size eight; new_bytes = small; chosen = e }
 
   reads_as : ReadsAs 64 kind img new p events (updated_image 64 kind number img new p events)
   unfolding choice_state
   reads_as =
       let chip : Chip = record { state = power_up number; image = img } in
       record {
-        refused = λ k values e. image-refused (choice_of 64 kind.placement img new p) k values e;
-        reads = λ l t e q lt d. ap (λ (ch : Choice). read_of 64 (image_by ch) q) e ∙ run-reads kind chip new p l t (chosen l t e) events q lt d;
-        whole = λ l t e le. ap image_by e ∙ run-whole kind chip new p l t (chosen l t e) events le;
+        refused = λ k values e. image_refused (choice_of 64 kind.placement img new p) k values e;
+        reads = λ l t e q lt d. ap (λ (ch : Choice). read_of 64 (image_by ch) q) e ∙ run_reads kind chip new p l t (chosen l t e) events q lt d;
+        whole = λ l t e le. ap image_by e ∙ run_whole kind chip new p l t (chosen l t e) events le;
       }
 
   -- what the start told says what the choice was
-  was-refused : (ch : Choice) (k : ℕ) (values : List ℕ) → refused k values ≡ choice_outcome ch → refused k values ≡ choice_answer ch
-  was-refused (Refused r) k values e = e
-  was-refused (Accepted l t) k values e = absurd (let z : ◌≡◌ {A = ℕ} 0 1 = cc in omega arith)
+  was_refused : (ch : Choice) (k : ℕ) (values : List ℕ) → refused k values ≡ choice_outcome ch → refused k values ≡ choice_answer ch
+  was_refused (Refused r) k values e = e
+  was_refused (Accepted l t) k values e = absurd (let z : ◌≡◌ {A = ℕ} 0 1 = cc in omega arith)
 
-  was-accepted : (ch : Choice) → accepted [] ≡ choice_outcome ch
+  was_accepted : (ch : Choice) → accepted [] ≡ choice_outcome ch
       → accepted ((choice_state 64 kind img new ch).superseded.0 ∷ (choice_state 64 kind img new ch).target.0 ∷ []) ≡ choice_answer ch
   unfolding choice_state ready
-  was-accepted (Refused r) e = absurd (let z : ◌≡◌ {A = ℕ} 0 1 = cc in omega arith)
-  was-accepted (Accepted l t) e = refl
+  was_accepted (Refused r) e = absurd (let z : ◌≡◌ {A = ℕ} 0 1 = cc in omega arith)
+  was_accepted (Accepted l t) e = refl
 
   -- ---- the two ends of the function
 
@@ -120,15 +120,15 @@ module _ (kind : UpdateKind) (number img new : List ℕ) (p events : ℕ) (eight
   ends : (answer : Outcome (List ℕ)) (after : List ℕ) → answer ≡ update_answer 64 kind img new p → after ≡ updated_image 64 kind number img new p events → Ends answer after
   ends answer after a e = (a, (e, subst (ReadsAs 64 kind img new p events) (sym e) reads_as))
 
-  pub ends-refused : (r : Refusal) → start_outcome (StartRefused r) ≡ publisher_answer 64 kind img new p → Ends (refusing r) img
-  ends-refused r e =
-      let a = was-refused (choice_of 64 kind.placement img new p) (number_of r) (values_of r) e in
-      ends (refusing r) img a (sym (image-refused (choice_of 64 kind.placement img new p) (number_of r) (values_of r) (sym a)))
+  pub ends_refused : (r : Refusal) → start_outcome (StartRefused r) ≡ publisher_answer 64 kind img new p → Ends (refusing r) img
+  ends_refused r e =
+      let a = was_refused (choice_of 64 kind.placement img new p) (number_of r) (values_of r) e in
+      ends (refusing r) img a (sym (image_refused (choice_of 64 kind.placement img new p) (number_of r) (values_of r) (sym a)))
 
-  pub ends-ready : (s : Publisher) (cs : State) (after : List ℕ) → start_outcome StartReady ≡ publisher_answer 64 kind img new p → s ≡ publisher_state 64 kind img new p
+  pub ends_ready : (s : Publisher) (cs : State) (after : List ℕ) → start_outcome StartReady ≡ publisher_answer 64 kind img new p → s ≡ publisher_state 64 kind img new p
       → cs ≡ power_up number
       → after ≡ run_for 64 events (record { publisher = s; chip = cs; reply = true }) img → Ends (accepted (s.superseded.0 ∷ s.target.0 ∷ [])) after
-  ends-ready s cs after e es ec ea =
+  ends_ready s cs after e es ec ea =
       ends (accepted (s.superseded.0 ∷ s.target.0 ∷ [])) after
-      (ap (λ (u : Publisher). accepted (u.superseded.0 ∷ u.target.0 ∷ [])) es ∙ was-accepted (choice_of 64 kind.placement img new p) e)
+      (ap (λ (u : Publisher). accepted (u.superseded.0 ∷ u.target.0 ∷ [])) es ∙ was_accepted (choice_of 64 kind.placement img new p) e)
       (ea ∙ ap₂ (λ (u : Publisher) (v : State). run_for 64 events (record { publisher = u; chip = v; reply = true }) img) es ec)

@@ -15,7 +15,7 @@ use Rattle.master_publisher.specs.Code.Turn.{plan_in, total_in, turn_of}
 use Rattle.master_publisher.specs.Call.{turn_outcome, publisher_in_range, call_answer, call_state}
 use Rattle.chip_entries.specs.Run.{Chip, next, line_at, run}
 use Rattle.master_call_laws.specs.Calls.{update_answers}
-use Rattle.master_call_laws.proofs.Ranges.{called_is, told_is, call-outside}
+use Rattle.master_call_laws.proofs.Ranges.{called_is, told_is, call_outside}
 use Rattle.master_update.specs.declared.Joined.{Joined}
 use Rattle.master_update.specs.Update.{chip_of, handed_on, handed_image, called, image_called, is_running, replies_for, run_for}
 
@@ -26,16 +26,16 @@ handed n c (accepted (send e)) rest = refl
 handed n c (accepted (tells values)) rest = refl
 handed n c (refused k values) rest = refl
 
-one-turn : (n k : ℕ) (j : Joined) (img : List ℕ) → run_for n k (called n j img) (image_called n j img) ≡ run_for n (suc k) j img
+one_turn : (n k : ℕ) (j : Joined) (img : List ℕ) → run_for n k (called n j img) (image_called n j img) ≡ run_for n (suc k) j img
 unfolding run_for drawn_replies called image_called handed_on handed_image
-one-turn n k j img =
+one_turn n k j img =
     ap (λ (c : Chip). c.image)
     (handed n (chip_of j img) (call_answer n j.publisher j.reply)
     (update_answers n (call_state n j.publisher j.reply) (replies_for n k (called n j img) (image_called n j img))))
 
-pub run-next : (n left : ℕ) (j : Joined) (img : List ℕ) → 0 < left → run_for n (left - 1) (called n j img) (image_called n j img) ≡ run_for n left j img
-run-next n zero j img lt = absurd (omega arith)
-run-next n (suc k) j img lt = let e : suc k - 1 ≡ k = omega arith in ap (λ (i : ℕ). run_for n i (called n j img) (image_called n j img)) e ∙ one-turn n k j img
+pub run_next : (n left : ℕ) (j : Joined) (img : List ℕ) → 0 < left → run_for n (left - 1) (called n j img) (image_called n j img) ≡ run_for n left j img
+run_next n zero j img lt = absurd (omega arith)
+run_next n (suc k) j img lt = let e : suc k - 1 ≡ k = omega arith in ap (λ (i : ℕ). run_for n i (called n j img) (image_called n j img)) e ∙ one_turn n k j img
 
 pub run_none : (n left : ℕ) (j : Joined) (img : List ℕ) → left ≤ 0 → img ≡ run_for n left j img
 unfolding run_for drawn_replies run events_of
@@ -60,8 +60,8 @@ silent n s h (r ∷ rs) = go (publisher_in_range n s) refl (silent n s h rs)
     go true e more =
         let t = stays s s.stage r (update_answers n s rs) h in
         rw (told_is n s r e, called_is n s r e, t.0) (t.1 ∙ more)
-    go false e more = let o = call-outside n s r e in rw (o.0, o.1) more
+    go false e more = let o = call_outside n s r e in rw (o.0, o.1) more
 
-pub run-ended : (n k : ℕ) (j : Joined) (img : List ℕ) → is_running j.publisher.stage ≡ false → run_for n k j img ≡ img
+pub run_ended : (n k : ℕ) (j : Joined) (img : List ℕ) → is_running j.publisher.stage ≡ false → run_for n k j img ≡ img
 unfolding run_for run
-run-ended n k j img h = ap (λ (es : List Event). (run n (chip_of j img) es).image) (silent n j.publisher h (replies_for n k j img))
+run_ended n k j img h = ap (λ (es : List Event). (run n (chip_of j img) es).image) (silent n j.publisher h (replies_for n k j img))

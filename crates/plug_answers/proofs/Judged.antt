@@ -6,16 +6,16 @@ use native.Mathlib.Omega.{arith}
 use Rattle.base_types.specs.Outcome.{Outcome, refused, accepted, judge, Done, done, following, in_order}
 
 -- what comes first is accepted where all is
-pub first-accepted : (j k : Outcome Done) → following j k ≡ accepted done → j ≡ accepted done
-first-accepted (accepted done) k e = refl
-first-accepted (refused n vs) k e = absurd (let y : ◌≡◌ {A = ℕ} 0 1 = cc in omega arith)
+pub first_accepted : (j k : Outcome Done) → following j k ≡ accepted done → j ≡ accepted done
+first_accepted (accepted done) k e = refl
+first_accepted (refused n vs) k e = absurd (let y : ◌≡◌ {A = ℕ} 0 1 = cc in omega arith)
 
 -- the answer's buffer is judged with the other buffers
-pub answer-judged : (image ranges lengths answer : Bool) (rest : Outcome Done)
+pub answer_judged_lem : (image ranges lengths answer : Bool) (rest : Outcome Done)
     → following (in_order image ranges lengths) (judge answer 10 rest) ≡ following (in_order image ranges (answer && lengths)) rest
-answer-judged false ranges lengths answer rest = refl
-answer-judged true false lengths answer rest = refl
-answer-judged true true true true rest = refl
-answer-judged true true true false rest = refl
-answer-judged true true false true rest = refl
-answer-judged true true false false rest = refl
+answer_judged_lem false ranges lengths answer rest = refl
+answer_judged_lem true false lengths answer rest = refl
+answer_judged_lem true true true true rest = refl
+answer_judged_lem true true true false rest = refl
+answer_judged_lem true true false true rest = refl
+answer_judged_lem true true false false rest = refl

@@ -18,9 +18,9 @@ use Rattle.master_publisher.specs.Start as publish
 use Rattle.master_plan.specs.declared.kind.UpdateKind.{UpdateKind}
 use Rattle.master_publisher.specs.declared.PublisherStop.TheVariants.{ImageLength}
 use Rattle.master_runs.specs.Calls.{are_replies, replies_at, call_code, last_from, to_come}
-use Rattle.master_number_laws.specs.Laws as number-laws
-use Rattle.master_page_laws.specs.Laws as page-laws
-use Rattle.master_call_laws.specs.Calls as call-laws
+use Rattle.master_number_laws.specs.Laws as number_laws
+use Rattle.master_page_laws.specs.Laws as page_laws
+use Rattle.master_call_laws.specs.Calls as call_laws
 use Rattle.plug_answers.specs.Answers.{is_answer}
 use Rattle.plug_reader_calls.specs.Number.{number_run_judged, number_run_outcome, number_run_events}
 use Rattle.plug_reader_calls.specs.Page.{page_run_judged, page_run_outcome, page_run_events, page_run_buffer}
@@ -40,10 +40,10 @@ mean [] = refl
 mean (true ∷ replies) = ap (λ (l : List Bool). true ∷ l) (mean replies)
 mean (false ∷ replies) = ap (λ (l : List Bool). false ∷ l) (mean replies)
 
-are-not : (first later : List ℕ) (b : ℕ) → 2 ≤ b → are_replies (first ++ (b ∷ later)) ≡ false
+are_not : (first later : List ℕ) (b : ℕ) → 2 ≤ b → are_replies (first ++ (b ∷ later)) ≡ false
 unfolding are_replies
-are-not [] later b h = simp (le-ltb b 2 h)
-are-not (c ∷ first) later b h = ap (λ (r : Bool). ltb c 2 && r) (are-not first later b h) ∙ never (ltb c 2)
+are_not [] later b h = simp (le-ltb b 2 h)
+are_not (c ∷ first) later b h = ap (λ (r : Bool). ltb c 2 && r) (are_not first later b h) ∙ never (ltb c 2)
   where
     never : (a : Bool) → (a && false) ≡ false
     never true = refl
@@ -65,59 +65,59 @@ module _ (replies : List Bool) (events answer : List ℕ) (l : Buffers replies e
   many : eqb (length events) (length (given replies)) ≡ true
   many = eq-eqb (length events) (length (given replies)) (l.many ∙ sym (length-map replies one))
 
-  number-run : Shows (number-laws.number_answers_to number_begun replies) (number_run_outcome (given replies) events answer) (number_run_events (given replies) events answer)
+  number_run : Shows (number_laws.number_answers_to number_begun replies) (number_run_outcome (given replies) events answer) (number_run_events (given replies) events answer)
   unfolding number_run_judged number_run_outcome number_run_events
-  number-run =
-      let same = ap (λ (r : List Bool). number-laws.number_answers_to number_begun r) (mean replies) in
+  number_run =
+      let same = ap (λ (r : List Bool). number_laws.number_answers_to number_begun r) (mean replies) in
       record {
         events = simp (are replies, sixteen, many) (ap (map call_code) same);
         told = simp (are replies, sixteen, many) (ap (last_from to_come) same);
       }
 
   module _ (n p : ℕ) (buffer : List ℕ) (below : p < n) (right : length buffer ≡ 32) where
-    page-accepted : page_run_judged n p (given replies) events buffer answer ≡ accepted done
+    page_accepted : page_run_judged n p (given replies) events buffer answer ≡ accepted done
     unfolding page_run_judged start_answer is_page
-    page-accepted = simp (are replies, sixteen, many, eq-eqb (length buffer) 32 right, lt-ltb p n below)
+    page_accepted = simp (are replies, sixteen, many, eq-eqb (length buffer) 32 right, lt-ltb p n below)
 
-    page-run : Shows (page-laws.page_answers_to n (page_started n p buffer) replies)
+    page_run : Shows (page_laws.page_answers_to n (page_started n p buffer) replies)
         (page_run_outcome n p (given replies) events buffer answer)
         (page_run_events n p (given replies) events buffer answer)
     unfolding page_run_outcome page_run_events
-    page-run =
-        let same = ap (λ (r : List Bool). page-laws.page_answers_to n (page_started n p buffer) r) (mean replies) in
-        record { events = simp page-accepted (ap (map call_code) same); told = simp page-accepted (ap (last_from to_come) same) }
+    page_run =
+        let same = ap (λ (r : List Bool). page_laws.page_answers_to n (page_started n p buffer) r) (mean replies) in
+        record { events = simp page_accepted (ap (map call_code) same); told = simp page_accepted (ap (last_from to_come) same) }
 
-    page-left : page_run_buffer n p (given replies) events buffer answer ≡ (page-laws.page_after n (page_started n p buffer) replies).buffer
+    page_left : page_run_buffer n p (given replies) events buffer answer ≡ (page_laws.page_after n (page_started n p buffer) replies).buffer
     unfolding page_run_buffer
-    page-left =
-        simp page-accepted (ap (λ (r : List Bool). (page-laws.page_after n (page_started n p buffer) r).buffer) (mean replies))
+    page_left =
+        simp page_accepted (ap (λ (r : List Bool). (page_laws.page_after n (page_started n p buffer) r).buffer) (mean replies))
 
-  publisher-run : (n : ℕ) (kind : UpdateKind) (img new : List ℕ) (p : ℕ) → publish.publisher_answer n kind img new p ≡ accepted []
-      → Shows (call-laws.update_answers n (publish.publisher_state n kind img new p) replies)
+  publisher_run : (n : ℕ) (kind : UpdateKind) (img new : List ℕ) (p : ℕ) → publish.publisher_answer n kind img new p ≡ accepted []
+      → Shows (call_laws.update_answers n (publish.publisher_state n kind img new p) replies)
       (publisher_run_outcome n kind img new p (given replies) events answer)
       (publisher_run_events n kind img new p (given replies) events answer)
   unfolding publisher_run_outcome publisher_run_events publisher_run_judged
-  publisher-run n kind img new p e =
-      let same = ap (λ (r : List Bool). call-laws.update_answers n (publish.publisher_state n kind img new p) r) (mean replies) in
+  publisher_run n kind img new p e =
+      let same = ap (λ (r : List Bool). call_laws.update_answers n (publish.publisher_state n kind img new p) r) (mean replies) in
       record {
         events = simp (sized n kind img new p e, are replies, sixteen, many, e) (ap (map call_code) same);
         told = simp (sized n kind img new p e, are replies, sixteen, many, e) (ap (last_from to_come) same);
       }
 
-pub run-laws : (n : ℕ) → RunLaws n
+pub run_laws : (n : ℕ) → RunLaws n
 unfolding number_run_judged number_run_outcome number_run_events page_run_judged page_run_outcome page_run_events page_run_buffer publisher_run_judged publisher_run_outcome publisher_run_events
-run-laws n =
+run_laws n =
     record {
-      number = number-run;
-      page = λ p replies events buffer answer l below right. page-run replies events answer l n p buffer below right;
-      page-buffer = λ p replies events buffer answer l below right. page-left replies events answer l n p buffer below right;
-      publisher = λ kind img new p replies events answer l e. publisher-run replies events answer l n kind img new p e;
-      number-byte = λ first later events answer b h. record { told = simp (are-not first later b h); kept = simp (are-not first later b h) };
-      page-byte = λ p first later events buffer answer b h. record { told = simp (are-not first later b h); kept = simp (are-not first later b h) };
-      page-byte-buffer = λ p first later events buffer answer b h. simp (are-not first later b h);
-      publisher-byte = λ kind img new p first later events answer b h e. record {
-        told = simp (e, are-not first later b h);
-        kept = simp (e, are-not first later b h);
+      number = number_run;
+      page = λ p replies events buffer answer l below right. page_run replies events answer l n p buffer below right;
+      page_buffer_law = λ p replies events buffer answer l below right. page_left replies events answer l n p buffer below right;
+      publisher = λ kind img new p replies events answer l e. publisher_run replies events answer l n kind img new p e;
+      number_byte = λ first later events answer b h. record { told = simp (are_not first later b h); kept = simp (are_not first later b h) };
+      page_byte = λ p first later events buffer answer b h. record { told = simp (are_not first later b h); kept = simp (are_not first later b h) };
+      page_byte_buffer = λ p first later events buffer answer b h. simp (are_not first later b h);
+      publisher_byte = λ kind img new p first later events answer b h e. record {
+        told = simp (e, are_not first later b h);
+        kept = simp (e, are_not first later b h);
       };
-      publisher-image = λ kind img new p codes events answer e. record { told = simp e; kept = simp e };
+      publisher_image = λ kind img new p codes events answer e. record { told = simp e; kept = simp e };
     }

@@ -9,9 +9,9 @@ use Rattle.master_number.specs.NumberRead.{number_begun}
 use Rattle.master_page.specs.Held.{page_started}
 use Rattle.master_publisher.specs.Start.{publisher_answer, publisher_state}
 use Rattle.master_runs.specs.Calls.{call_code, last_from, to_come}
-use Rattle.master_number_laws.specs.Laws as number-laws
-use Rattle.master_page_laws.specs.Laws as page-laws
-use Rattle.master_call_laws.specs.Calls as call-laws
+use Rattle.master_number_laws.specs.Laws as number_laws
+use Rattle.master_page_laws.specs.Laws as page_laws
+use Rattle.master_call_laws.specs.Calls as call_laws
 use Rattle.plug_reader_calls.specs.Number.{number_run_outcome, number_run_events}
 use Rattle.plug_reader_calls.specs.Page.{page_run_outcome, page_run_events, page_run_buffer}
 use Rattle.plug_publisher_calls.specs.Publisher.{publisher_run_outcome, publisher_run_events}
@@ -37,31 +37,31 @@ pub record Refuses (number : ℕ) (end : Outcome Next) (before after : List ℕ)
 
 pub record RunLaws (n : ℕ) : Type 0 where
   pub number : (replies : List Bool) (events answer : List ℕ) → Buffers replies events answer
-      → Shows (number-laws.number_answers_to number_begun replies) (number_run_outcome (given replies) events answer) (number_run_events (given replies) events answer)
+      → Shows (number_laws.number_answers_to number_begun replies) (number_run_outcome (given replies) events answer) (number_run_events (given replies) events answer)
   pub page : (p : ℕ) (replies : List Bool) (events buffer answer : List ℕ) → Buffers replies events answer → p < n → length buffer ≡ 32
-      → Shows (page-laws.page_answers_to n (page_started n p buffer) replies)
+      → Shows (page_laws.page_answers_to n (page_started n p buffer) replies)
       (page_run_outcome n p (given replies) events buffer answer)
       (page_run_events n p (given replies) events buffer answer)
   -- and the page's buffer is the one after these calls
-  pub page-buffer : (p : ℕ) (replies : List Bool) (events buffer answer : List ℕ) → Buffers replies events answer → p < n → length buffer ≡ 32
-      → page_run_buffer n p (given replies) events buffer answer ≡ (page-laws.page_after n (page_started n p buffer) replies).buffer
+  pub page_buffer_law : (p : ℕ) (replies : List Bool) (events buffer answer : List ℕ) → Buffers replies events answer → p < n → length buffer ≡ 32
+      → page_run_buffer n p (given replies) events buffer answer ≡ (page_laws.page_after n (page_started n p buffer) replies).buffer
   -- of every kind
   pub publisher : (kind : UpdateKind) (img new : List ℕ) (p : ℕ) (replies : List Bool) (events answer : List ℕ) → Buffers replies events answer
       → publisher_answer n kind img new p ≡ accepted []
-      → Shows (call-laws.update_answers n (publisher_state n kind img new p) replies)
+      → Shows (call_laws.update_answers n (publisher_state n kind img new p) replies)
       (publisher_run_outcome n kind img new p (given replies) events answer)
       (publisher_run_events n kind img new p (given replies) events answer)
   -- a byte that is neither 0 nor 1 draws 2, whatever the buffers' lengths, and nothing is written
-  pub number-byte : (first later events answer : List ℕ) (b : ℕ) → 2 ≤ b
+  pub number_byte : (first later events answer : List ℕ) (b : ℕ) → 2 ≤ b
       → Refuses 2 (number_run_outcome (first ++ (b ∷ later)) events answer) events (number_run_events (first ++ (b ∷ later)) events answer)
-  pub page-byte : (p : ℕ) (first later events buffer answer : List ℕ) (b : ℕ) → 2 ≤ b
+  pub page_byte : (p : ℕ) (first later events buffer answer : List ℕ) (b : ℕ) → 2 ≤ b
       → Refuses 2 (page_run_outcome n p (first ++ (b ∷ later)) events buffer answer) events (page_run_events n p (first ++ (b ∷ later)) events buffer answer)
-  pub page-byte-buffer : (p : ℕ) (first later events buffer answer : List ℕ) (b : ℕ) → 2 ≤ b
+  pub page_byte_buffer : (p : ℕ) (first later events buffer answer : List ℕ) (b : ℕ) → 2 ≤ b
       → page_run_buffer n p (first ++ (b ∷ later)) events buffer answer ≡ buffer
-  pub publisher-byte : (kind : UpdateKind) (img new : List ℕ) (p : ℕ) (first later events answer : List ℕ) (b : ℕ) → 2 ≤ b → is_image n img ≡ true
+  pub publisher_byte : (kind : UpdateKind) (img new : List ℕ) (p : ℕ) (first later events answer : List ℕ) (b : ℕ) → 2 ≤ b → is_image n img ≡ true
       → Refuses 2 (publisher_run_outcome n kind img new p (first ++ (b ∷ later)) events answer)
       events
       (publisher_run_events n kind img new p (first ++ (b ∷ later)) events answer)
   -- an image of another length draws 1, whatever else is given
-  pub publisher-image : (kind : UpdateKind) (img new : List ℕ) (p : ℕ) (codes events answer : List ℕ) → is_image n img ≡ false
+  pub publisher_image : (kind : UpdateKind) (img new : List ℕ) (p : ℕ) (codes events answer : List ℕ) → is_image n img ≡ false
       → Refuses 1 (publisher_run_outcome n kind img new p codes events answer) events (publisher_run_events n kind img new p codes events answer)

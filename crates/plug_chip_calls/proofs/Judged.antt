@@ -9,7 +9,7 @@ use Rattle.chip_entries.specs.Run.{run_answer}
 use Rattle.plug_answers.specs.Answers.{is_number_buffer, eight_of}
 use Rattle.plug_chip_calls.specs.Chip.{whole_answer}
 
-pub whole-judged : (number codes img replies : List ℕ) → is_number_buffer number ≡ true
+pub whole_judged : (number codes img replies : List ℕ) → is_number_buffer number ≡ true
     → run_answer 64 (power_up (eight_of number)) codes img replies ≡ whole_answer 64 number codes img replies
 unfolding run_answer whole_answer power_up chip_in_range memory_in_range
-whole-judged number codes img replies e = simp e
+whole_judged number codes img replies e = simp e

@@ -10,23 +10,23 @@ use lib.ListN.{length, get_or, set, take, drop, replicate, length-append, length
 use lib.Seq.{drop-cons, take_all, drop_at}
 use borrow.Author.Tests.{eq-eqb, ne_eqb, eqb-true, le-ltb}
 use Rattle.base_types.specs.Bits.{one}
-use Rattle.base_types.proofs.Tests.{and_left, and_right, and-true}
+use Rattle.base_types.proofs.Tests.{and_left, and_right, and_true}
 use Rattle.base_types.specs.declared.write_mode.WriteMode.{WriteMode}
 use Rattle.base_types.specs.declared.write_mode.WriteMode.TheVariants.{Ordinary, Quick}
 use Rattle.chip_memory.specs.Page.{copied}
-use Rattle.chip_memory.proofs.Pages.{copied-same, copied-length}
+use Rattle.chip_memory.proofs.Pages.{copied_same, copied_length}
 use Rattle.plug_fields.specs.Fields.{padded, front, same, rest_at, is_copy, Inverse, mode_byte, mode_of}
 
 -- ---- a byte, a 16-bit number, zeros, a refusal
 
-eqb-self : (x : ℕ) → eqb x x ≡ true
-eqb-self x = eq-eqb x x refl
+eqb_self : (x : ℕ) → eqb x x ≡ true
+eqb_self x = eq-eqb x x refl
 
-pub low-joined : (l h : ℕ) → l < 256 → (l + 256 * h) % 256 ≡ l
-low-joined l h lt = omega arith
+pub low_joined : (l h : ℕ) → l < 256 → (l + 256 * h) % 256 ≡ l
+low_joined l h lt = omega arith
 
-pub high-joined : (l h : ℕ) → l < 256 → (l + 256 * h) / 256 ≡ h
-high-joined l h lt = omega arith
+pub high_joined : (l h : ℕ) → l < 256 → (l + 256 * h) / 256 ≡ h
+high_joined l h lt = omega arith
 
 pub halves : (x : ℕ) → x % 256 + 256 * (x / 256) ≡ x
 halves x = omega arith
@@ -34,30 +34,30 @@ halves x = omega arith
 pub past : (k x : ℕ) → k < x → eqb x k ≡ false
 past k x h = ne_eqb x k (omega arith)
 
-pub mode-good : (x : ℕ) → eqb x (mode_byte (mode_of x)) ≡ ltb x 2
+pub mode_good : (x : ℕ) → eqb x (mode_byte (mode_of x)) ≡ ltb x 2
 unfolding mode_byte mode_of
-mode-good zero = refl
-mode-good (suc zero) = refl
-mode-good (suc (suc x)) = let h : 2 ≤ (suc (suc x)) = omega arith in rw (past 0 (suc (suc x)) (omega arith), past 1 (suc (suc x)) (omega arith), le-ltb _ _ h)
+mode_good zero = refl
+mode_good (suc zero) = refl
+mode_good (suc (suc x)) = let h : 2 ≤ (suc (suc x)) = omega arith in rw (past 0 (suc (suc x)) (omega arith), past 1 (suc (suc x)) (omega arith), le-ltb _ _ h)
 
-pub mode-back : (m : WriteMode) → mode_of (mode_byte m) ≡ m
+pub mode_back : (m : WriteMode) → mode_of (mode_byte m) ≡ m
 unfolding mode_byte mode_of
-mode-back Ordinary = refl
-mode-back Quick = refl
+mode_back Ordinary = refl
+mode_back Quick = refl
 
-pub flag-good : (x : ℕ) → eqb x (one (eqb x 1)) ≡ ltb x 2
-flag-good zero = refl
-flag-good (suc zero) = refl
-flag-good (suc (suc x)) = let h : 2 ≤ (suc (suc x)) = omega arith in rw (past 1 (suc (suc x)) (omega arith), past 0 (suc (suc x)) (omega arith), le-ltb _ _ h)
+pub flag_good : (x : ℕ) → eqb x (one (eqb x 1)) ≡ ltb x 2
+flag_good zero = refl
+flag_good (suc zero) = refl
+flag_good (suc (suc x)) = let h : 2 ≤ (suc (suc x)) = omega arith in rw (past 1 (suc (suc x)) (omega arith), past 0 (suc (suc x)) (omega arith), le-ltb _ _ h)
 
-padded-length : (n : ℕ) (b : List ℕ) → length (padded n b) ≡ n
-padded-length zero b = refl
-padded-length (suc n) [] = ap suc (padded-length n [])
-padded-length (suc n) (x ∷ b) = ap suc (padded-length n b)
+padded_length : (n : ℕ) (b : List ℕ) → length (padded n b) ≡ n
+padded_length zero b = refl
+padded_length (suc n) [] = ap suc (padded_length n [])
+padded_length (suc n) (x ∷ b) = ap suc (padded_length n b)
 
 front_length : (r : ℕ) → r ≤ 16 → (enum fields : List ℕ) → length (front r enum fields) ≡ 16
 front_length r le enum fields =
-    length-append (padded r enum) (padded (16 - r) fields) ∙ rw (padded-length r enum, padded-length (16 - r) fields) (omega arith)
+    length-append (padded r enum) (padded (16 - r) fields) ∙ rw (padded_length r enum, padded_length (16 - r) fields) (omega arith)
 
 -- a field is stored after the enum, and stands there in the whole
 pub stored : (r k v : ℕ) (enum fields : List ℕ) → set (padded r enum ++ fields) (r + k) v ≡ padded r enum ++ set fields k v
@@ -82,44 +82,44 @@ field (suc r) k (x ∷ enum) fields rest =
     let z : suc r + k ≡ suc (r + k) = omega arith in
     rw z (field r k enum fields rest)
 
-pub zeros-next : (b : List ℕ) (i to : ℕ) → i < to → get_or b i 0 ≡ 0 → same (i + 1) (replicate (to - (i + 1)) 0) b ≡ same i (replicate (to - i) 0) b
+pub zeros_next : (b : List ℕ) (i to : ℕ) → i < to → get_or b i 0 ≡ 0 → same (i + 1) (replicate (to - (i + 1)) 0) b ≡ same i (replicate (to - i) 0) b
 unfolding same
-zeros-next b i to lt e =
+zeros_next b i to lt e =
     let n : to - i ≡ suc (to - (i + 1)) = omega arith in
     rw (n, add-one i, e)
 
-pub zeros-not : (b : List ℕ) (i to : ℕ) → i < to → (get_or b i 0 ≡ 0 → ⊥) → false ≡ same i (replicate (to - i) 0) b
+pub zeros_not : (b : List ℕ) (i to : ℕ) → i < to → (get_or b i 0 ≡ 0 → ⊥) → false ≡ same i (replicate (to - i) 0) b
 unfolding same
-zeros-not b i to lt d =
+zeros_not b i to lt d =
     let n : to - i ≡ suc (to - (i + 1)) = omega arith in
     rw (n, ne_eqb _ _ d)
 
-pub zeros-end : (b : List ℕ) (i to : ℕ) → to ≤ i → true ≡ same i (replicate (to - i) 0) b
+pub zeros_end : (b : List ℕ) (i to : ℕ) → to ≤ i → true ≡ same i (replicate (to - i) 0) b
 unfolding same
-zeros-end b i to le =
+zeros_end b i to le =
     let n : to - i ≡ 0 = omega arith in
     rw n
 
 -- past the end stand zeros
-none-past : (b : List ℕ) (n i : ℕ) → length b ≤ i → same i (replicate n 0) b ≡ true
+none_past : (b : List ℕ) (n i : ℕ) → length b ≤ i → same i (replicate n 0) b ≡ true
 unfolding same
-none-past b zero i le = refl
-none-past b (suc n) i le = rw (get_or-eq_default b 0 le) (none-past b n (suc i) (omega arith))
+none_past b zero i le = refl
+none_past b (suc n) i le = rw (get_or-eq_default b 0 le) (none_past b n (suc i) (omega arith))
 
-zeros-cut : (b : List ℕ) (n m i : ℕ) → m ≤ n → length b ≤ i + m → same i (replicate n 0) b ≡ same i (replicate m 0) b
+zeros_cut : (b : List ℕ) (n m i : ℕ) → m ≤ n → length b ≤ i + m → same i (replicate n 0) b ≡ same i (replicate m 0) b
 unfolding same
-zeros-cut b n zero i le past = none-past b n i (omega arith)
-zeros-cut b zero (suc m) i le past = absurd (omega arith)
-zeros-cut b (suc n) (suc m) i le past = ap (λ (t : Bool). eqb (get_or b i 0) 0 && t) (zeros-cut b n m (suc i) (omega arith) (omega arith))
+zeros_cut b n zero i le past = none_past b n i (omega arith)
+zeros_cut b zero (suc m) i le past = absurd (omega arith)
+zeros_cut b (suc n) (suc m) i le past = ap (λ (t : Bool). eqb (get_or b i 0) 0 && t) (zeros_cut b n m (suc i) (omega arith) (omega arith))
 
-pub zeros-past : (b : List ℕ) (from to : ℕ) → length b < to → same from (replicate (length b - from) 0) b ≡ same from (replicate (to - from) 0) b
-zeros-past b from to lt = sym (zeros-cut b (to - from) (length b - from) from (omega arith) (omega arith))
+pub zeros_past : (b : List ℕ) (from to : ℕ) → length b < to → same from (replicate (length b - from) 0) b ≡ same from (replicate (to - from) 0) b
+zeros_past b from to lt = sym (zeros_cut b (to - from) (length b - from) from (omega arith) (omega arith))
 
 -- ---- what stands after the front
 
-pub rest-none : (n : ℕ) (b : List ℕ) → length b ≤ 16 → replicate n 0 ≡ rest_at n b
+pub rest_none : (n : ℕ) (b : List ℕ) → length b ≤ 16 → replicate n 0 ≡ rest_at n b
 unfolding rest_at copied
-rest-none n b le = rw drop_of_length-le
+rest_none n b le = rw drop_of_length-le
 
 -- from the sixteenth byte to the end
 to_the_end : (b : List ℕ) → take (length b - 16) (drop 16 b) ≡ drop 16 b
@@ -132,28 +132,28 @@ rest_some n b = ap (λ (l : List ℕ). copied l (replicate n 0)) (to_the_end b)
 -- of bytes that are so many, all after the front
 rest_all : (n : ℕ) (b : List ℕ) → length b ≡ 16 + n → rest_at n b ≡ drop 16 b
 unfolding rest_at
-rest_all n b e = copied-same (drop 16 b) (replicate n 0) (simp (length-drop, length-replicate) (omega arith))
+rest_all n b e = copied_same (drop 16 b) (replicate n 0) (simp (length-drop, length-replicate) (omega arith))
 
 -- ---- the front and the rest put into a buffer, one after the other
 
-rest-length : (n : ℕ) (b : List ℕ) → length (rest_at n b) ≡ n
+rest_length : (n : ℕ) (b : List ℕ) → length (rest_at n b) ≡ n
 unfolding rest_at
-rest-length n b = copied-length (drop 16 b) (replicate n 0) ∙ length-replicate n 0
+rest_length n b = copied_length (drop 16 b) (replicate n 0) ∙ length-replicate n 0
 
-copied-first : (a old : List ℕ) → length a ≤ length old → take (length a) (copied a old) ≡ a
+copied_first : (a old : List ℕ) → length a ≤ length old → take (length a) (copied a old) ≡ a
 unfolding copied
-copied-first [] [] le = refl
-copied-first [] (o ∷ old) le = refl
-copied-first (x ∷ a) [] le = absurd (omega arith)
-copied-first (x ∷ a) (o ∷ old) le = ap (λ (l : List ℕ). x ∷ l) (copied-first a old (omega arith))
+copied_first [] [] le = refl
+copied_first [] (o ∷ old) le = refl
+copied_first (x ∷ a) [] le = absurd (omega arith)
+copied_first (x ∷ a) (o ∷ old) le = ap (λ (l : List ℕ). x ∷ l) (copied_first a old (omega arith))
 
 pub put_both : (f rest old mid end : List ℕ) → length f ≡ 16 → length old ≡ 16 + length rest → mid ≡ copied f old
     → end ≡ copied rest (take (length mid - 16) (drop 16 mid)) → take 16 mid ++ (end ++ drop (length mid - 16) (drop 16 mid)) ≡ f ++ rest
 put_both f rest old mid end long len first second =
-    let size : length mid ≡ 16 + length rest = ap length first ∙ copied-length f old ∙ len in
-    let head : take 16 mid ≡ f = ap (take 16) first ∙ rw long at (copied-first f old (rw long (omega arith))) in
+    let size : length mid ≡ 16 + length rest = ap length first ∙ copied_length f old ∙ len in
+    let head : take 16 mid ≡ f = ap (take 16) first ∙ rw long at (copied_first f old (rw long (omega arith))) in
     let fits : length rest ≡ length (drop 16 mid) = sym (length-drop 16 mid ∙ omega arith) in
-    let tail : end ≡ rest = second ∙ ap (copied rest) (to_the_end mid) ∙ copied-same rest (drop 16 mid) fits in
+    let tail : end ≡ rest = second ∙ ap (copied rest) (to_the_end mid) ∙ copied_same rest (drop 16 mid) fits in
     let none : drop (length mid - 16) (drop 16 mid) ≡ [] = drop_of_length-le (drop 16 mid) {i = length mid - 16} (simp length-drop (omega arith)) in
     simp (head, tail, none, append-nil)
 
@@ -168,41 +168,41 @@ pub same_not : (b : List ℕ) (at : ℕ) {t : ℕ} → (get_or b at 0 ≡ t → 
 unfolding same
 same_not b at d xs = rw (ne_eqb _ _ d)
 
-pub same-own : (b : List ℕ) (at : ℕ) (xs : List ℕ) → same at (get_or b at 0 ∷ xs) b ≡ same (suc at) xs b
-same-own b at xs = same_tag b at refl xs
+pub same_own : (b : List ℕ) (at : ℕ) (xs : List ℕ) → same at (get_or b at 0 ∷ xs) b ≡ same (suc at) xs b
+same_own b at xs = same_tag b at refl xs
 
-pub same-one : (b : List ℕ) (at x : ℕ) (xs : List ℕ) → same at (x ∷ xs) b ≡ (eqb (get_or b at 0) x && same (suc at) xs b)
+pub same_one : (b : List ℕ) (at x : ℕ) (xs : List ℕ) → same at (x ∷ xs) b ≡ (eqb (get_or b at 0) x && same (suc at) xs b)
 unfolding same
-same-one b at x xs = refl
+same_one b at x xs = refl
 
-pub same-two : (b : List ℕ) (at x y : ℕ) (xs : List ℕ)
+pub same_two : (b : List ℕ) (at x y : ℕ) (xs : List ℕ)
     → same at (x ∷ y ∷ xs) b ≡ ((eqb (get_or b at 0) x && eqb (get_or b (suc at) 0) y) && same (suc (suc at)) xs b)
 unfolding same
-same-two b at x y xs = go (eqb (get_or b at 0) x)
+same_two b at x y xs = go (eqb (get_or b at 0) x)
   where
     go : (t : Bool) → (t && (eqb (get_or b (suc at) 0) y && same (suc (suc at)) xs b)) ≡ ((t && eqb (get_or b (suc at) 0) y) && same (suc (suc at)) xs b)
     go true = refl
     go false = refl
 
 -- of a list with itself, from a place on
-same-tail : (at : ℕ) (b : List ℕ) → same at (drop at b) b ≡ true
+same_tail : (at : ℕ) (b : List ℕ) → same at (drop at b) b ≡ true
 unfolding same
-same-tail at b = go (length b - at) at refl
+same_tail at b = go (length b - at) at refl
   where
     go : (n k : ℕ) → length b - k ≡ n → same k (drop k b) b ≡ true
     go zero k e = rw (drop_of_length-le b {i = k} (omega arith))
     go (suc n) k e =
         let lt : k < length b = omega arith in
         let more : same (suc k) (drop (suc k) b) b ≡ true = go n (suc k) (omega arith) in
-        rw (drop-cons b k 0 lt, eqb-self (get_or b k 0)) more
+        rw (drop-cons b k 0 lt, eqb_self (get_or b k 0)) more
 
 -- one law for what stands one after the other
-same-append : (at : ℕ) (xs ys b : List ℕ) → same at (xs ++ ys) b ≡ (same at xs b && same (at + length xs) ys b)
+same_append : (at : ℕ) (xs ys b : List ℕ) → same at (xs ++ ys) b ≡ (same at xs b && same (at + length xs) ys b)
 unfolding same
-same-append at [] ys b =
+same_append at [] ys b =
     let n : at + 0 ≡ at = omega arith in
     rw n
-same-append at (x ∷ xs) ys b = go (eqb (get_or b at 0) x) (same-append (suc at) xs ys b)
+same_append at (x ∷ xs) ys b = go (eqb (get_or b at 0) x) (same_append (suc at) xs ys b)
   where
     go : (t : Bool) → same (suc at) (xs ++ ys) b ≡ (same (suc at) xs b && same (suc at + length xs) ys b)
         → (t && same (suc at) (xs ++ ys) b) ≡ ((t && same (suc at) xs b) && same (at + suc (length xs)) ys b)
@@ -211,9 +211,9 @@ same-append at (x ∷ xs) ys b = go (eqb (get_or b at 0) x) (same-append (suc at
         rw n more
     go false more = refl
 
-same-equal : (w b : List ℕ) → length w ≡ length b → same 0 w b ≡ true → w ≡ b
+same_equal : (w b : List ℕ) → length w ≡ length b → same 0 w b ≡ true → w ≡ b
 unfolding same
-same-equal w b len e = go w 0 (omega arith) e
+same_equal w b len e = go w 0 (omega arith) e
   where
     go : (w : List ℕ) (at : ℕ) → at + length w ≡ length b → same at w b ≡ true → w ≡ drop at b
     go [] at e s = sym (drop_of_length-le b {i = at} (omega arith))
@@ -231,14 +231,14 @@ same-equal w b len e = go w 0 (omega arith) e
 
 -- ---- the whole: a front of sixteen bytes and n more
 
-whole-rest : (n : ℕ) (f rest : List ℕ) → length f ≡ 16 → length rest ≡ n → rest_at n (f ++ rest) ≡ rest
-whole-rest n f rest long e =
+whole_rest : (n : ℕ) (f rest : List ℕ) → length f ≡ 16 → length rest ≡ n → rest_at n (f ++ rest) ≡ rest
+whole_rest n f rest long e =
     rest_all n (f ++ rest) (length-append f rest ∙ omega arith) ∙ drop_at f rest 16 long
 
 -- the n bytes after the front need no comparison
 whole_same : (n : ℕ) (f b : List ℕ) → length f ≡ 16 → length b ≡ 16 + n → same 0 (f ++ rest_at n b) b ≡ same 0 f b
 whole_same n f b long e =
-    same-append 0 f (rest_at n b) b ∙ rw (rest_all n b e, long, same-tail 16 b) (and-true (same 0 f b))
+    same_append 0 f (rest_at n b) b ∙ rw (rest_all n b e, long, same_tail 16 b) (and_true (same 0 f b))
 
 -- what the laws are about: the bytes of a state, and the state of bytes
 abbrev pub bytes_by : {S : Type 0} → ℕ → (S → List ℕ) → (S → List ℕ) → (S → List ℕ) → S → List ℕ
@@ -277,29 +277,29 @@ module _ {S : Type 0} (n r : ℕ) (enum fields array : S → List ℕ) (at : Lis
       let s = at b in
       let z : 0 + r ≡ r = omega arith in
       simp (eq-eqb _ _ e, own b) (whole_same n (front r (enum s) (fields s)) b (long s) e)
-      ∙ same-append 0 (padded r (enum s)) (padded (16 - r) (fields s)) b
-      ∙ rw (padded-length r (enum s), z)
+      ∙ same_append 0 (padded r (enum s)) (padded (16 - r) (fields s)) b
+      ∙ rw (padded_length r (enum s), z)
 
   whole : (s : S) → length (array s) ≡ n → length (bytes s) ≡ 16 + n
   whole s len = length-append (front r (enum s) (fields s)) (array s) ∙ omega (arith, long s)
 
-  state-back : (s : S) → length (array s) ≡ n → of (bytes s) ≡ s
-  state-back s len = held (bytes s) (whole s len) ∙ back s (whole-rest n (front r (enum s) (fields s)) (array s) (long s) len)
+  state_back : (s : S) → length (array s) ≡ n → of (bytes s) ≡ s
+  state_back s len = held (bytes s) (whole s len) ∙ back s (whole_rest n (front r (enum s) (fields s)) (array s) (long s) len)
 
-  state-kept : (s : S) → length (array s) ≡ n → is_copy (16 + n) (bytes (of (bytes s))) (bytes s) ≡ true
+  state_kept : (s : S) → length (array s) ≡ n → is_copy (16 + n) (bytes (of (bytes s))) (bytes s) ≡ true
   unfolding is_copy
-  state-kept s len = rw (state-back s len, eq-eqb _ _ (whole s len)) (same-tail 0 (bytes s))
+  state_kept s len = rw (state_back s len, eq-eqb _ _ (whole s len)) (same_tail 0 (bytes s))
 
   bytes_back : (b : List ℕ) → is_copy (16 + n) (bytes (of b)) b ≡ true → bytes (of b) ≡ b
   unfolding is_copy
   bytes_back b e =
       let size : length b ≡ 16 + n = eqb-true _ _ (and_left (eqb (length b) (16 + n)) (same 0 (bytes (of b)) b) e) in
       let equal : same 0 (bytes (of b)) b ≡ true = and_right (eqb (length b) (16 + n)) (same 0 (bytes (of b)) b) e in
-      same-equal (bytes (of b)) b (whole (of b) (sized (eqb (length b) (16 + n))) ∙ sym size) equal
+      same_equal (bytes (of b)) b (whole (of b) (sized (eqb (length b) (16 + n))) ∙ sym size) equal
     where
       sized : (t : Bool) → length (array (cond t (at b) none)) ≡ n
-      sized true = ap length (own b) ∙ rest-length n b
+      sized true = ap length (own b) ∙ rest_length n b
       sized false = empty
 
   pub laws : Laws n r enum fields array at none
-  laws = record { held = held; judged = judged; inverse = record { bytes_back = bytes_back; state-back = state-back; state-kept = state-kept } }
+  laws = record { held = held; judged = judged; inverse = record { bytes_back = bytes_back; state_back = state_back; state_kept = state_kept } }

@@ -42,8 +42,8 @@ pub record Inverse {S : Type 0} (n : ℕ) (bytes : S → List ℕ) (array : S �
   -- bytes that are accepted are those of the state that they hold
   pub bytes_back : (b : List ℕ) → is_state b ≡ true → bytes (of b) ≡ b
   -- a state's bytes hold it, and they are accepted
-  pub state-back : (s : S) → length (array s) ≡ n → of (bytes s) ≡ s
-  pub state-kept : (s : S) → length (array s) ≡ n → is_state (bytes s) ≡ true
+  pub state_back : (s : S) → length (array s) ≡ n → of (bytes s) ≡ s
+  pub state_kept : (s : S) → length (array s) ≡ n → is_state (bytes s) ≡ true
 
 -- 2, or accepted
 abbrev pub judged_by : Bool → Outcome Done

@@ -25,18 +25,18 @@ module _ (img : List ℕ) where
   unfolding walk_answer
   walk_same = same_at (walk_answer 64 img) (λ p q e f. simp (e, f))
 
-  pub free-same : (p : ℕ) → free_answer 64 img (page_number p) ≡ free_answer 64 img p
+  pub free_same : (p : ℕ) → free_answer 64 img (page_number p) ≡ free_answer 64 img p
   unfolding free_answer
-  free-same = same_at (free_answer 64 img) (λ p q e f. simp (e, f))
+  free_same = same_at (free_answer 64 img) (λ p q e f. simp (e, f))
 
   module _ (buffer : List ℕ) where
-    pub copy-same : (p : ℕ) → copy_answer 64 img (page_number p) buffer ≡ copy_answer 64 img p buffer
+    pub copy_same : (p : ℕ) → copy_answer 64 img (page_number p) buffer ≡ copy_answer 64 img p buffer
     unfolding copy_answer
-    copy-same = same_at (λ p. copy_answer 64 img p buffer) (λ p q e f. simp (e, f))
+    copy_same = same_at (λ p. copy_answer 64 img p buffer) (λ p q e f. simp (e, f))
 
     left : (p : ℕ) → is_page 64 p ≡ false → copy_buffer 64 img p buffer ≡ buffer
     unfolding copy_answer copy_buffer
     left p e = simp e (kept (is_image 64 img) (eqb (length buffer) 32) (page_bytes img p) buffer)
 
-    pub copied-same : (p : ℕ) → copy_buffer 64 img (page_number p) buffer ≡ copy_buffer 64 img p buffer
-    copied-same = same_at (λ p. copy_buffer 64 img p buffer) (λ p q e f. left p e ∙ sym (left q f))
+    pub copied_same : (p : ℕ) → copy_buffer 64 img (page_number p) buffer ≡ copy_buffer 64 img p buffer
+    copied_same = same_at (λ p. copy_buffer 64 img p buffer) (λ p q e f. left p e ∙ sym (left q f))

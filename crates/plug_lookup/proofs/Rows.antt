@@ -13,14 +13,14 @@ module _ (header : List ℕ) (latitude : ℤ) (n i : ℕ) where
   ahead : i < n → n - i ≡ suc (n - (i + 1))
   ahead lt = omega arith
 
-  pub row-found : i < n → covers header latitude i ≡ true → row_from header latitude (n - i) i ≡ accepted i
+  pub row_found : i < n → covers header latitude i ≡ true → row_from header latitude (n - i) i ≡ accepted i
   unfolding row_from
-  row-found lt e = ap (λ k. row_from header latitude k i) (ahead lt) ∙ simp e
+  row_found lt e = ap (λ k. row_from header latitude k i) (ahead lt) ∙ simp e
 
-  pub row-goes-on : i < n → covers header latitude i ≡ false → row_from header latitude (n - i) i ≡ row_from header latitude (n - (i + 1)) (i + 1)
+  pub row_goes_on : i < n → covers header latitude i ≡ false → row_from header latitude (n - i) i ≡ row_from header latitude (n - (i + 1)) (i + 1)
   unfolding row_from
-  row-goes-on lt e = ap (λ k. row_from header latitude k i) (ahead lt) ∙ simp e
+  row_goes_on lt e = ap (λ k. row_from header latitude k i) (ahead lt) ∙ simp e
 
-  pub row-over : n ≤ i → row_from header latitude (n - i) i ≡ refused 17 []
+  pub row_over : n ≤ i → row_from header latitude (n - i) i ≡ refused 17 []
   unfolding row_from
-  row-over le = let e : n - i ≡ 0 = omega arith in ap (λ k. row_from header latitude k i) e
+  row_over le = let e : n - i ≡ 0 = omega arith in ap (λ k. row_from header latitude k i) e

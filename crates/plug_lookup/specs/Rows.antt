@@ -34,7 +34,7 @@ latitude_rows =
     ∷ (row_answer 64 (page_with []) (pos 0) gives refused 16 [])
     ∷ []
 
-pub latitude_rows-hold : Hold latitude_rows
+pub latitude_rows_hold : Hold latitude_rows
 unfolding latitude_rows northern widest page_with word_of signed_of word_at rows_of columns_of edge_of height_of row_page every is_between fields_right pages_right
     rest_blank is_header lower_edge covers row_from row_answer
-latitude_rows-hold = refl
+latitude_rows_hold = refl

@@ -16,10 +16,10 @@ use Rattle.base_types.specs.declared.verdict.Verdict.{Verdict}
 use Rattle.base_types.specs.declared.verdict.Verdict.TheVariants.{Final, Loop, Outside}
 use Rattle.chip_memory.specs.Layout.{image_size}
 use Rattle.chip_memory.specs.Image.{redirection_of, page_bytes}
-use Rattle.chip_memory.proofs.Pages.{page-length}
+use Rattle.chip_memory.proofs.Pages.{page_length}
 use Rattle.base_types.specs.Verdict.{final}
 use Rattle.chip_chain.specs.Walk.{walk_of}
-use Rattle.chip_chain.proofs.Walks.{walk-final}
+use Rattle.chip_chain.proofs.Walks.{walk_final}
 use Rattle.chip_chain_laws.specs.Update.{PageReading, bytes_under, read_of, moved_by}
 use Rattle.master_publisher.specs.declared.Choice.{Choice}
 use Rattle.master_publisher.specs.declared.Choice.TheVariants.{Refused, Accepted}
@@ -29,13 +29,13 @@ use Rattle.chip_entries.specs.Run.{Chip}
 use Rattle.chip_session_laws.specs.Session.{Ready, Bytes}
 use Rattle.master_plan.specs.declared.kind.UpdateKind.{UpdateKind}
 use Rattle.master_plan.specs.Kind.{shown_of}
-use Rattle.master_plan_laws.proofs.Starts.{Placed, placed-means, chosen-means}
+use Rattle.master_plan_laws.proofs.Starts.{Placed, placed_means, chosen_means}
 use Rattle.master_publisher_laws.specs.Demand.{returned, reaching, Update, Demand3}
-use Rattle.master_publisher_laws.proofs.Demand.{demand-3-ds2505}
+use Rattle.master_publisher_laws.proofs.Demand.{demand_3_ds2505}
 use Rattle.plug_lookup.specs.Header.{columns_of, row_page}
 use Rattle.plug_lookup.specs.Lookup.{column_value, lookup_answer}
 use Rattle.plug_lookup_laws.specs.Superseding.{image_reached, header_at, Covered, value_on, Lookups, Superseding}
-use Rattle.plug_lookup_laws.proofs.Answers.{run_length, row-on-chip, not-blank, on_reading, by-header, by_row}
+use Rattle.plug_lookup_laws.proofs.Answers.{run_length, row_on_chip, not_blank, on_reading, by_header, by_row}
 
 -- the start found t: it is free, and is not l
 found : (n : ℕ) (kind : UpdateKind) (img new : List ℕ) (p : ℕ) → publisher_answer n kind img new p ≡ accepted []
@@ -45,14 +45,14 @@ found n kind img new p a = go (choice_of n kind.placement img new p) refl a
   where
     go : (ch : Choice) → choice_of n kind.placement img new p ≡ ch → choice_outcome ch ≡ accepted []
         → Placed n img (choice_state n kind img new ch).superseded.0 (choice_state n kind img new ch).target.0
-    go (Accepted l t) e a = placed-means kind.placement n img l.0 t.0 (chosen-means l t n kind img new p e).found
+    go (Accepted l t) e a = placed_means kind.placement n img l.0 t.0 (chosen_means l t n kind img new p e).found
     go (Refused r) e a = absurd (let z : ◌≡◌ {A = ℕ} 0 1 = cc in omega arith)
 
 -- ---- what a page reads as
 
-read-final : (n : ℕ) (img : List ℕ) (p : ℕ) (f : Page) (hops : ℕ) → walk_of n img p ≡ Final f hops
+read_final : (n : ℕ) (img : List ℕ) (p : ℕ) (f : Page) (hops : ℕ) → walk_of n img p ≡ Final f hops
     → read_of n img p ≡ record { verdict = Final f hops; bytes = page_bytes img f.0 }
-read-final n img p f hops w = ap (λ (v : Verdict). record { verdict = v; bytes = bytes_under img v }) w
+read_final n img p f hops w = ap (λ (v : Verdict). record { verdict = v; bytes = bytes_under img v }) w
 
 -- a page that did not end at l reads as before
 moved_other : (l : Page) (t : ℕ) (new : List ℕ) (r : PageReading) (v : Verdict) → ((hops : ℕ) → v ≡ Final l hops → ⊥) → moved_by l.0 t new r v ≡ r
@@ -67,26 +67,26 @@ either_same false x y e = e
 module _ {n : ℕ} {kind : UpdateKind} {c : Chip} {new : List ℕ} {p : ℕ} {s : Publisher} {replies : List Bool} (some : 1 < n) (ok : Ready n c)
     (update : Update n kind c new p s replies) (placed : Placed n c.image s.superseded.0 s.target.0) where
   -- T ends at itself
-  ends-itself : (q : ℕ) (f : Page) (hops : ℕ) → walk_of n c.image q ≡ Final f hops → q ≡ s.target.0 → f.0 ≡ s.target.0
+  ends_itself : (q : ℕ) (f : Page) (hops : ℕ) → walk_of n c.image q ≡ Final f hops → q ≡ s.target.0 → f.0 ≡ s.target.0
   unfolding walk_of
-  ends-itself q f hops w z =
+  ends_itself q f hops w z =
       let t : walk_of n c.image s.target.0 ≡ final s.target.0 0 =
-      walk-final (redirection_of n c.image) n placed.on-chip
+      walk_final (redirection_of n c.image) n placed.on_chip
       (record { there = refl; valid = placed.free.valid; before = λ k lt. absurd (not-suc-le-zero lt) }) in
       let same : f ≡ s.target = cc in
       ap (λ (x : Page). x.0) same
 
   -- so a page that ends at L is not T
-  superseded-apart : (q hops : ℕ) → walk_of n c.image q ≡ Final s.superseded hops → q ≡ s.target.0 → ⊥
-  superseded-apart q hops w z = placed.apart (sym (ends-itself q s.superseded hops w z))
+  superseded_apart : (q hops : ℕ) → walk_of n c.image q ≡ Final s.superseded hops → q ≡ s.target.0 → ⊥
+  superseded_apart q hops w z = placed.apart (sym (ends_itself q s.superseded hops w z))
 
   -- ---- the image left, and what demand 3 says of it
 
   abbrev left : ℕ → Bool → List ℕ
   left m cut = image_reached n c (returned n s replies) m cut
 
-  left-sized : (m : ℕ) (cut : Bool) → length (left m cut) ≡ image_size n
-  left-sized m cut = run_length n (reaching (returned n s replies) m cut) c ∙ ok.sized
+  left_sized : (m : ℕ) (cut : Bool) → length (left m cut) ≡ image_size n
+  left_sized m cut = run_length n (reaching (returned n s replies) m cut) c ∙ ok.sized
 
   module _ (m : ℕ) (cut : Bool) (le : m ≤ length (returned n s replies)) where
     reads_old : m < shown_of kind → (q : ℕ) → q < n → (q ≡ s.target.0 → ⊥) → read_of n (left m cut) q ≡ read_of n c.image q
@@ -98,10 +98,10 @@ module _ {n : ℕ} {kind : UpdateKind} {c : Chip} {new : List ℕ} {p : ℕ} {s 
         update.reads m cut le q lt d
         ∙ either_same (ltb m (shown_of kind)) _ _ (moved_other s.superseded s.target.0 new (read_of n c.image q) (walk_of n c.image q) other)
 
-    reads-new : shown_of kind ≤ m → (q hops : ℕ) → q < n → walk_of n c.image q ≡ Final s.superseded hops
+    reads_new : shown_of kind ≤ m → (q hops : ℕ) → q < n → walk_of n c.image q ≡ Final s.superseded hops
         → read_of n (left m cut) q ≡ record { verdict = final s.target.0 (hops + 1); bytes = new }
-    reads-new late q hops lt w =
-        update.reads m cut le q lt (superseded-apart q hops w)
+    reads_new late q hops lt w =
+        update.reads m cut le q lt (superseded_apart q hops w)
         ∙ simp (le-ltb m (shown_of kind) late)
         (ap (λ v. moved_by s.superseded.0 s.target.0 new (read_of n c.image q) v) w ∙ simp (eq-eqb s.superseded.0 s.superseded.0 refl))
 
@@ -111,44 +111,44 @@ module _ {n : ℕ} {kind : UpdateKind} {c : Chip} {new : List ℕ} {p : ℕ} {s 
     abbrev page : ℕ
     page = row_page (header_at c.image f) i
 
-    page-below : page < n
-    page-below = row-on-chip n (header_at c.image f) latitude i v.row
+    page_below : page < n
+    page_below = row_on_chip n (header_at c.image f) latitude i v.row
 
     -- page 1 is not T, whose bytes are no header
-    first-apart : 1 ≡ s.target.0 → ⊥
-    first-apart z =
-        let e : f.0 ≡ s.target.0 = ends-itself 1 f v.hops v.ends z in
-        not-blank n (header_at c.image f) latitude i v.row (rw e placed.free.blank)
-        (omega (arith, page-length n c.image f.0 ok.sized (rw e placed.on-chip)))
+    first_apart : 1 ≡ s.target.0 → ⊥
+    first_apart z =
+        let e : f.0 ≡ s.target.0 = ends_itself 1 f v.hops v.ends z in
+        not_blank n (header_at c.image f) latitude i v.row (rw e placed.free.blank)
+        (omega (arith, page_length n c.image f.0 ok.sized (rw e placed.on_chip)))
 
-    first-same : (f.0 ≡ s.superseded.0 → ⊥) → (m : ℕ) (cut : Bool) → m ≤ length (returned n s replies) → read_of n (left m cut) 1 ≡ read_of n c.image 1
-    first-same d m cut le =
-        reads_other m cut le 1 some first-apart (λ hops w. let e : f ≡ s.superseded = cc v.ends in d (ap (λ (x : Page). x.0) e))
+    first_same : (f.0 ≡ s.superseded.0 → ⊥) → (m : ℕ) (cut : Bool) → m ≤ length (returned n s replies) → read_of n (left m cut) 1 ≡ read_of n c.image 1
+    first_same d m cut le =
+        reads_other m cut le 1 some first_apart (λ hops w. let e : f ≡ s.superseded = cc v.ends in d (ap (λ (x : Page). x.0) e))
 
     -- on an image on which page 1 reads as at the start, the lookup is as the row's page reads
-    by-page : (column : ℕ) (img : List ℕ) → length img ≡ image_size n → read_of n img 1 ≡ read_of n c.image 1 → (r : PageReading) → read_of n img page ≡ r
+    by_page : (column : ℕ) (img : List ℕ) → length img ≡ image_size n → read_of n img 1 ≡ read_of n c.image 1 → (r : PageReading) → read_of n img page ≡ r
         → lookup_answer n img latitude column ≡ judge (ltb column (columns_of (header_at c.image f))) 18 (on_reading (column_value column) r)
-    by-page column img sized first =
-        by_row n img sized some latitude column (header_at c.image f) f v.hops (first ∙ read-final n c.image 1 f v.hops v.ends) i v.row
+    by_page column img sized first =
+        by_row n img sized some latitude column (header_at c.image f) f v.hops (first ∙ read_final n c.image 1 f v.hops v.ends) i v.row
 
     same : (column m : ℕ) (cut : Bool) → read_of n (left m cut) 1 ≡ read_of n c.image 1 → read_of n (left m cut) page ≡ read_of n c.image page
         → lookup_answer n (left m cut) latitude column ≡ lookup_answer n c.image latitude column
     same column m cut first second =
-        by-page column (left m cut) (left-sized m cut) first (read_of n c.image page) second
-        ∙ sym (by-page column c.image ok.sized refl (read_of n c.image page) refl)
+        by_page column (left m cut) (left_sized m cut) first (read_of n c.image page) second
+        ∙ sym (by_page column c.image ok.sized refl (read_of n c.image page) refl)
 
   lookups : Lookups n kind c new s replies
   lookups =
       record {
         before = λ latitude column f i v d m cut le early.
-            same v column m cut (reads_old m cut le early 1 some (first-apart v)) (reads_old m cut le early (page v) (page-below v) d);
+            same v column m cut (reads_old m cut le early 1 some (first_apart v)) (reads_old m cut le early (page v) (page_below v) d);
         changed = λ latitude column f i v d hops w m cut le late.
-            by-page v column (left m cut) (left-sized m cut) (first-same v d m cut le) _ (reads-new m cut le late (page v) hops (page-below v) w);
+            by_page v column (left m cut) (left_sized m cut) (first_same v d m cut le) _ (reads_new m cut le late (page v) hops (page_below v) w);
         kept = λ latitude column f i v d apart other m cut le.
-            same v column m cut (first-same v d m cut le) (reads_other m cut le (page v) (page-below v) apart other);
+            same v column m cut (first_same v d m cut le) (reads_other m cut le (page v) (page_below v) apart other);
         header = λ latitude column f i v e m cut le late.
-            by-header n (left m cut) (left-sized m cut) some latitude column new s.target (v.hops + 1)
-            (reads-new m cut le late 1 v.hops some (v.ends ∙ ap (λ x. final x v.hops) e));
+            by_header n (left m cut) (left_sized m cut) some latitude column new s.target (v.hops + 1)
+            (reads_new m cut le late 1 v.hops some (v.ends ∙ ap (λ x. final x v.hops) e));
       }
 
   -- the row of the page asked for, which ends at L
@@ -160,8 +160,8 @@ module _ {n : ℕ} {kind : UpdateKind} {c : Chip} {new : List ℕ} {p : ℕ} {s 
       → lookup_answer n (left m cut) latitude column ≡ value_on (header_at c.image f) column (cond (ltb m (shown_of kind)) (page_bytes c.image s.superseded.0) new)
   row latitude column f i v e d m cut le (yes early) =
       simp (lt-ltb m (shown_of kind) early)
-      (lookups.before latitude column f i v (superseded-apart (page v) update.hops (asked (page v) e)) m cut le early
-      ∙ by-page v column c.image ok.sized refl _ (read-final n c.image (page v) s.superseded update.hops (asked (page v) e)))
+      (lookups.before latitude column f i v (superseded_apart (page v) update.hops (asked (page v) e)) m cut le early
+      ∙ by_page v column c.image ok.sized refl _ (read_final n c.image (page v) s.superseded update.hops (asked (page v) e)))
   row latitude column f i v e d m cut le (no late) =
       simp (le-ltb m (shown_of kind) (omega arith)) (lookups.changed latitude column f i v d update.hops (asked (page v) e) m cut le (omega arith))
 
@@ -175,5 +175,5 @@ superseding n some kind c new p replies ok demand =
     }
 
 -- at the DS2505's 64 pages
-pub superseding-ds2505 : (kind : UpdateKind) (c : Chip) (new : List ℕ) (p : ℕ) (replies : List Bool) → Ready 64 c → Bytes new → Superseding 64 kind c new p replies
-superseding-ds2505 kind c new p replies ok small = superseding 64 (lit< tt) kind c new p replies ok (demand-3-ds2505 kind c new p replies ok small)
+pub superseding_ds2505 : (kind : UpdateKind) (c : Chip) (new : List ℕ) (p : ℕ) (replies : List Bool) → Ready 64 c → Bytes new → Superseding 64 kind c new p replies
+superseding_ds2505 kind c new p replies ok small = superseding 64 (lit< tt) kind c new p replies ok (demand_3_ds2505 kind c new p replies ok small)

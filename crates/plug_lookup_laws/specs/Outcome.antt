@@ -18,4 +18,4 @@ pub record AnswerLaws (n : ℕ) (img : List ℕ) (latitude : ℤ) (column : ℕ)
   -- what is accepted is a value
   pub value : (v : ℤ) → lookup_answer n img latitude column ≡ accepted v → is_value v ≡ true
   -- 3 is never told: page 1 is a page of the chip, and a header names no page that is not
-  pub no-page : (values : List ℕ) → lookup_answer n img latitude column ≡ refused 3 values → ⊥
+  pub no_page : (values : List ℕ) → lookup_answer n img latitude column ≡ refused 3 values → ⊥

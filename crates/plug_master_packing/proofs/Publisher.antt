@@ -25,33 +25,33 @@ use Rattle.master_publisher.specs.declared.Publisher.{Publisher}
 use Rattle.plug_fields.specs.Fields.{padded, same, rest_at, mode_byte, value_of}
 use Rattle.plug_master_packing.specs.Publisher.{stop_of, stage_bytes, stage_of, publisher_at, publisher_none, publisher_bytes, publisher_of, is_publisher_state, PublisherPacking}
 use Rattle.plug_master_packing.specs.Code.Publisher.{stage_own}
-use Rattle.plug_fields.proofs.Laws.{field, same-own, same-one, mode-good, mode-back, halves, Laws, laws}
+use Rattle.plug_fields.proofs.Laws.{field, same_own, same_one, mode_good, mode_back, halves, Laws, laws}
 
-stop-back : (stop : PublisherStop) → stop_of (number_of (publisher_refusal stop)) (value_of (publisher_refusal stop)) ≡ stop
+stop_back : (stop : PublisherStop) → stop_of (number_of (publisher_refusal stop)) (value_of (publisher_refusal stop)) ≡ stop
 unfolding value_of stop_of
-stop-back ImageLength = refl
-stop-back PageNumber = refl
-stop-back Loop = refl
-stop-back (Outside x) = refl
-stop-back Crc16 = refl
-stop-back ReadBack = refl
-stop-back NoFreePage = refl
-stop-back (RedirectionProtected l) = refl
-stop-back BufferLength = refl
-stop-back NoPresence = refl
-stop-back (DataProtected l) = refl
+stop_back ImageLength = refl
+stop_back PageNumber = refl
+stop_back Loop = refl
+stop_back (Outside x) = refl
+stop_back Crc16 = refl
+stop_back ReadBack = refl
+stop_back NoFreePage = refl
+stop_back (RedirectionProtected l) = refl
+stop_back BufferLength = refl
+stop_back NoPresence = refl
+stop_back (DataProtected l) = refl
 
 -- there is one kind for each mode
-kind-back : (mode : WriteMode) (selection : Selection) (placement : Placement)
+kind_back : (mode : WriteMode) (selection : Selection) (placement : Placement)
     → ◌≡◌ {A = UpdateKind} (kind_of mode) (record { mode = mode; selection = selection; placement = placement })
-kind-back mode SkipRom LowestFree = refl
+kind_back mode SkipRom LowestFree = refl
 
-stage-back : (p : Stage) (fields rest : List ℕ) → stage_of ((padded 8 (stage_bytes p) ++ fields) ++ rest) ≡ p
+stage_back : (p : Stage) (fields rest : List ℕ) → stage_of ((padded 8 (stage_bytes p) ++ fields) ++ rest) ≡ p
 unfolding stage_bytes stage_of
-stage-back (Running k true) fields rest = rw halves
-stage-back (Running k false) fields rest = rw halves
-stage-back Ended fields rest = refl
-stage-back (Stopped stop) fields rest = ap Stopped (stop-back stop)
+stage_back (Running k true) fields rest = rw halves
+stage_back (Running k false) fields rest = rw halves
+stage_back Ended fields rest = refl
+stage_back (Stopped stop) fields rest = ap Stopped (stop_back stop)
 
 -- ---- states
 
@@ -65,18 +65,18 @@ publisher = laws _ _ _ _ _ _ _ (omega arith) (λ b. refl) refl back
     back : (s : Publisher) → rest_at 32 (publisher_bytes s) ≡ s.new → publisher_at (publisher_bytes s) (stage_of (publisher_bytes s)) ≡ s
     back s rest =
         let enum = stage_bytes s.stage in
-        let kind = kind-back s.kind.mode s.kind.selection s.kind.placement in
-        simp (stage-back s.stage, mode-back s.kind.mode, kind, field 8 0 enum, field 8 1 enum, field 8 2 enum, field 8 3 enum, rest)
+        let kind = kind_back s.kind.mode s.kind.selection s.kind.placement in
+        simp (stage_back s.stage, mode_back s.kind.mode, kind, field 8 0 enum, field 8 1 enum, field 8 2 enum, field 8 3 enum, rest)
 
-pub publisher-held : (b : List ℕ) → length b ≡ 48 → publisher_of b ≡ publisher_at b (stage_of b)
+pub publisher_held : (b : List ℕ) → length b ≡ 48 → publisher_of b ≡ publisher_at b (stage_of b)
 unfolding publisher_of
-publisher-held b e = publisher.held b e
+publisher_held b e = publisher.held b e
 
-pub publisher-judged : (b : List ℕ) → length b ≡ 48 → is_publisher_state b ≡ ((stage_own b && ltb (get_or b 11 0) 2) && same 12 (replicate 4 0) b)
+pub publisher_judged_lem : (b : List ℕ) → length b ≡ 48 → is_publisher_state b ≡ ((stage_own b && ltb (get_or b 11 0) 2) && same 12 (replicate 4 0) b)
 unfolding is_publisher_state stage_own publisher_of publisher_bytes
-publisher-judged b e =
-    publisher.judged b e ∙ rw (same-own b 8, same-own b 9, same-own b 10, same-one b 11, mode-good (get_or b 11 0)) (sym (and_assoc (stage_own b) (ltb (get_or b 11 0) 2) (same 12 (replicate 4 0) b)))
+publisher_judged_lem b e =
+    publisher.judged b e ∙ rw (same_own b 8, same_own b 9, same_own b 10, same_one b 11, mode_good (get_or b 11 0)) (sym (and_assoc (stage_own b) (ltb (get_or b 11 0) 2) (same 12 (replicate 4 0) b)))
 
-pub publisher-packing : PublisherPacking
+pub publisher_packing : PublisherPacking
 unfolding publisher_bytes publisher_of is_publisher_state
-publisher-packing = publisher.inverse
+publisher_packing = publisher.inverse

@@ -6,13 +6,13 @@ use Rattle.master_page.specs.PageRead.{start_answer, start_state}
 use Rattle.plug_answers.specs.Calls.{page_number}
 use Rattle.plug_answers.proofs.Pages.{same_at}
 
-pub page-same : (p : ℕ) → is_page 64 (page_number p) ≡ is_page 64 p
-page-same = same_at (is_page 64) (λ p q e f. simp (e, f))
+pub page_same : (p : ℕ) → is_page 64 (page_number p) ≡ is_page 64 p
+page_same = same_at (is_page 64) (λ p q e f. simp (e, f))
 
-pub start-same : (p : ℕ) → start_answer 64 (page_number p) ≡ start_answer 64 p
+pub start_same : (p : ℕ) → start_answer 64 (page_number p) ≡ start_answer 64 p
 unfolding start_answer
-start-same = same_at (start_answer 64) (λ p q e f. simp (e, f))
+start_same = same_at (start_answer 64) (λ p q e f. simp (e, f))
 
-pub state-same : (p : ℕ) → start_state 64 (page_number p) ≡ start_state 64 p
+pub state_same : (p : ℕ) → start_state 64 (page_number p) ≡ start_state 64 p
 unfolding start_state
-state-same = same_at (start_state 64) (λ p q e f. simp (e, f))
+state_same = same_at (start_state 64) (λ p q e f. simp (e, f))

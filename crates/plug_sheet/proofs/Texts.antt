@@ -21,87 +21,87 @@ three : (a b c : ℕ) → value_from 0 ((48 + a) ∷ (48 + b) ∷ (48 + c) ∷ [
 three a b c = omega arith
 
 module _ (x : ℕ) where
-  pub decimal-one : x < 10 → decimal x ≡ digit_of x ∷ []
+  pub decimal_one : x < 10 → decimal x ≡ digit_of x ∷ []
   unfolding decimal
-  decimal-one h = simp (lt-ltb x 10 h)
+  decimal_one h = simp (lt-ltb x 10 h)
 
-  pub decimal-two : 10 ≤ x → x < 100 → decimal x ≡ digit_of (x / 10) ∷ digit_of x ∷ []
+  pub decimal_two : 10 ≤ x → x < 100 → decimal x ≡ digit_of (x / 10) ∷ digit_of x ∷ []
   unfolding decimal
-  decimal-two l h = simp (le-ltb x 10 l, lt-ltb x 100 h)
+  decimal_two l h = simp (le-ltb x 10 l, lt-ltb x 100 h)
 
-  pub decimal-three : 10 ≤ x → 100 ≤ x → decimal x ≡ digit_of (x / 100) ∷ digit_of (x / 10) ∷ digit_of x ∷ []
+  pub decimal_three : 10 ≤ x → 100 ≤ x → decimal x ≡ digit_of (x / 100) ∷ digit_of (x / 10) ∷ digit_of x ∷ []
   unfolding decimal
-  decimal-three l h = simp (le-ltb x 10 l, le-ltb x 100 h)
+  decimal_three l h = simp (le-ltb x 10 l, le-ltb x 100 h)
 
-  pub decimal-length : length (decimal x) ≤ 3
-  decimal-length = go (dec_lt x 10) (dec_lt x 100)
+  pub decimal_length : length (decimal x) ≤ 3
+  decimal_length = go (dec_lt x 10) (dec_lt x 100)
     where
       go : Dec (x < 10) → Dec (x < 100) → length (decimal x) ≤ 3
-      go (yes a) _ = simp (decimal-one a) (omega arith)
-      go (no a) (yes b) = simp (decimal-two (omega arith) b) (omega arith)
-      go (no a) (no b) = simp (decimal-three (omega arith) (omega arith)) (omega arith)
+      go (yes a) _ = simp (decimal_one a) (omega arith)
+      go (no a) (yes b) = simp (decimal_two (omega arith) b) (omega arith)
+      go (no a) (no b) = simp (decimal_three (omega arith) (omega arith)) (omega arith)
 
   means : x < 1000 → value_from 0 (decimal x) ≡ x
   unfolding digit_of
   means h = go (dec_lt x 10) (dec_lt x 100)
     where
       go : Dec (x < 10) → Dec (x < 100) → value_from 0 (decimal x) ≡ x
-      go (yes a) _ = simp (decimal-one a) (omega arith)
-      go (no a) (yes b) = simp (decimal-two (omega arith) b) (omega arith)
+      go (yes a) _ = simp (decimal_one a) (omega arith)
+      go (no a) (yes b) = simp (decimal_two (omega arith) b) (omega arith)
       go (no a) (no b) =
           let tens : x / 10 / 10 ≡ x / 100 = div-div-eq-div-mul x 10 10 in
           let third : x / 100 % 10 ≡ x / 100 = omega arith in
           let second : x / 10 % 10 + 10 * (x / 100) ≡ x / 10 = omega arith in
-          simp (decimal-three (omega arith) (omega arith)) (three (x / 100 % 10) (x / 10 % 10) (x % 10) ∙ omega arith)
+          simp (decimal_three (omega arith) (omega arith)) (three (x / 100 % 10) (x / 10 % 10) (x % 10) ∙ omega arith)
 
   leading : (ds : List ℕ) → x < 1000 → decimal x ≡ 48 ∷ ds → x ≡ 0
   unfolding digit_of
   leading ds h e = go (dec_lt x 10) (dec_lt x 100)
     where
       go : Dec (x < 10) → Dec (x < 100) → x ≡ 0
-      go (yes a) _ = let d : digit_of x ≡ 48 = cc (decimal-one a) in omega arith
-      go (no a) (yes b) = let d : digit_of (x / 10) ≡ 48 = cc (decimal-two (omega arith) b) in omega arith
-      go (no a) (no b) = let d : digit_of (x / 100) ≡ 48 = cc (decimal-three (omega arith) (omega arith)) in omega arith
+      go (yes a) _ = let d : digit_of x ≡ 48 = cc (decimal_one a) in omega arith
+      go (no a) (yes b) = let d : digit_of (x / 10) ≡ 48 = cc (decimal_two (omega arith) b) in omega arith
+      go (no a) (no b) = let d : digit_of (x / 100) ≡ 48 = cc (decimal_three (omega arith) (omega arith)) in omega arith
 
-pub decimal-laws : DecimalLaws
-decimal-laws = record { means = λ x h. means x h; leading = λ x ds h e. leading x ds h e }
+pub decimal_laws : DecimalLaws
+decimal_laws = record { means = λ x h. means x h; leading = λ x ds h e. leading x ds h e }
 
 -- ---- how long the lines are
 
-pub pages-length : (n : ℕ) → length (pages_line n) ≤ 10
+pub pages_length : (n : ℕ) → length (pages_line n) ≤ 10
 unfolding pages_line
-pages-length n = simp length-append (omega (arith, decimal-length n))
+pages_length n = simp length-append (omega (arith, decimal_length n))
 
-final-length : (q hops : ℕ) → length (final_text q hops) ≤ 19
+final_length : (q hops : ℕ) → length (final_text q hops) ≤ 19
 unfolding final_text
-final-length q hops = simp length-append (omega (arith, decimal-length q, decimal-length hops))
+final_length q hops = simp length-append (omega (arith, decimal_length q, decimal_length hops))
 
-outside-length : (x : ℕ) → length (outside_text x) ≤ 19
+outside_length : (x : ℕ) → length (outside_text x) ≤ 19
 unfolding outside_text
-outside-length x = simp length-append (omega (arith, decimal-length x))
+outside_length x = simp length-append (omega (arith, decimal_length x))
 
-pub verdict-length : (v : Verdict) → length (verdict_text v) ≤ 19
+pub verdict_length : (v : Verdict) → length (verdict_text v) ≤ 19
 unfolding verdict_text
-verdict-length (Final q hops) = final-length _ _
-verdict-length Loop = omega arith
-verdict-length (Outside x) = outside-length _
+verdict_length (Final q hops) = final_length _ _
+verdict_length Loop = omega arith
+verdict_length (Outside x) = outside_length _
 
-pub line-length : (p : ℕ) (v : Verdict) → length (verdict_line p v) ≤ 24
+pub line_length : (p : ℕ) (v : Verdict) → length (verdict_line p v) ≤ 24
 unfolding verdict_line
-line-length p v = simp length-append (omega (arith, decimal-length p, verdict-length v))
+line_length p v = simp length-append (omega (arith, decimal_length p, verdict_length v))
 
-pub page-line-length : (n : ℕ) (img : List ℕ) (p : ℕ) → length (page_line n img p) ≤ 24
+pub page_line_length : (n : ℕ) (img : List ℕ) (p : ℕ) → length (page_line n img p) ≤ 24
 unfolding page_line
-page-line-length n img p = go (is_redirected n img p)
+page_line_length n img p = go (is_redirected n img p)
   where
     go : (b : Bool) → length (cond b (verdict_line p (walk_of n img p)) []) ≤ 24
-    go true = line-length p (walk_of n img p)
+    go true = line_length p (walk_of n img p)
     go false = omega arith
 
-pub page-lines-length : (n : ℕ) (img : List ℕ) (k p : ℕ) → length (page_lines n img k p) ≤ 24 * k
+pub page_lines_length : (n : ℕ) (img : List ℕ) (k p : ℕ) → length (page_lines n img k p) ≤ 24 * k
 unfolding page_lines
-page-lines-length n img zero p = omega arith
-page-lines-length n img (suc k) p = simp length-append (omega (arith, page-line-length n img p, page-lines-length n img k (p + 1)))
+page_lines_length n img zero p = omega arith
+page_lines_length n img (suc k) p = simp length-append (omega (arith, page_line_length n img p, page_lines_length n img k (p + 1)))
 
 -- one step of a loop over the pages
 module _ (n : ℕ) (img : List ℕ) (p : ℕ) where
@@ -109,17 +109,17 @@ module _ (n : ℕ) (img : List ℕ) (p : ℕ) where
   unfolding page_lines
   lines_next lt = let e : n - p ≡ suc (n - (p + 1)) = omega arith in ap (λ k. page_lines n img k p) e
 
-  pub lines-over : n ≤ p → page_lines n img (n - p) p ≡ []
+  pub lines_over : n ≤ p → page_lines n img (n - p) p ≡ []
   unfolding page_lines
-  lines-over le = let e : n - p ≡ 0 = omega arith in ap (λ k. page_lines n img k p) e
+  lines_over le = let e : n - p ≡ 0 = omega arith in ap (λ k. page_lines n img k p) e
 
-pub counts-length : (n : ℕ) (img : List ℕ) → length (counts_line n img) ≤ 24
+pub counts_length : (n : ℕ) (img : List ℕ) → length (counts_line n img) ≤ 24
 unfolding counts_line
-counts-length n img = simp length-append (omega (arith, decimal-length (redirected_count n img), decimal-length (free_count n img)))
+counts_length n img = simp length-append (omega (arith, decimal_length (redirected_count n img), decimal_length (free_count n img)))
 
 list_length : (n : ℕ) (img : List ℕ) → length (list_of n img) ≤ room_for n
 unfolding list_of
-list_length n img = simp length-append (omega (arith, pages-length n, page-lines-length n img n 0, counts-length n img))
+list_length n img = simp length-append (omega (arith, pages_length n, page_lines_length n img n 0, counts_length n img))
 
-pub list-laws : (n : ℕ) → ListLaws n
-list-laws n = record { fits = list_length n }
+pub list_laws : (n : ℕ) → ListLaws n
+list_laws n = record { fits = list_length n }

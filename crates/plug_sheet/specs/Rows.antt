@@ -13,14 +13,14 @@ use Rattle.plug_sheet.specs.List.{final_text, outside_text, verdict_text, verdic
 pub head : List ℕ
 head = 112 ∷ 97 ∷ 103 ∷ 101 ∷ 115 ∷ 32 ∷ 54 ∷ 52 ∷ 10 ∷ []
 
-pub example-list : List ℕ
-example-list =
+pub example_list : List ℕ
+example_list =
     head
     ++ (49 ∷ 32 ∷ 102 ∷ 105 ∷ 110 ∷ 97 ∷ 108 ∷ 32 ∷ 50 ∷ 32 ∷ 104 ∷ 111 ∷ 112 ∷ 115 ∷ 32 ∷ 49 ∷ 10 ∷ [])
     ++ (114 ∷ 101 ∷ 100 ∷ 105 ∷ 114 ∷ 101 ∷ 99 ∷ 116 ∷ 101 ∷ 100 ∷ 32 ∷ 49 ∷ 32 ∷ 102 ∷ 114 ∷ 101 ∷ 101 ∷ 32 ∷ 54 ∷ 49 ∷ 10 ∷ [])
 
-pub other-list : List ℕ
-other-list =
+pub other_list : List ℕ
+other_list =
     head
     ++ (53 ∷ 32 ∷ 108 ∷ 111 ∷ 111 ∷ 112 ∷ 10 ∷ [])
     ++ (55 ∷ 32 ∷ 111 ∷ 117 ∷ 116 ∷ 115 ∷ 105 ∷ 100 ∷ 101 ∷ 32 ∷ 50 ∷ 48 ∷ 48 ∷ 10 ∷ [])
@@ -31,7 +31,7 @@ pub redirecting : List ℕ → ℕ → ℕ → List ℕ
 redirecting img p byte = set img (status_index 64 (redirection_bytes + p)) byte
 
 -- FDh on page 1; and FAh, which names page 5 itself, on page 5, with 37h on page 7
-pub examples : (list_of 64 (redirecting (blank_image 64) 1 0xFD) ≡ example-list) × (list_of 64 (redirecting (redirecting (blank_image 64) 5 0xFA) 7 0x37) ≡ other-list)
-unfolding head example-list other-list redirecting digit_of decimal final_text outside_text verdict_text verdict_line pages_line page_line page_lines
+pub examples : (list_of 64 (redirecting (blank_image 64) 1 0xFD) ≡ example_list) × (list_of 64 (redirecting (redirecting (blank_image 64) 5 0xFA) 7 0x37) ≡ other_list)
+unfolding head example_list other_list redirecting digit_of decimal final_text outside_text verdict_text verdict_line pages_line page_line page_lines
     counts_line list_of redirection_of page_bytes page_bit is_blank every count walk_from walk_of is_unnamed is_free first_address
 examples = (refl, refl)

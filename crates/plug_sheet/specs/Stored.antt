@@ -59,11 +59,11 @@ pub record SheetLaws (n : ℕ) : Type 0 where
   -- a sheet that was written is a sheet, and parsing it gives back the number and the image
   pub written : (number img : List ℕ) → length number ≡ 8 → is_image n img ≡ true → gaps_blank n img ≡ true
       → is_sheet n (sheet_of n number img) ≡ true
-  pub number-back : (number img : List ℕ) → length number ≡ 8 → is_image n img ≡ true → gaps_blank n img ≡ true
+  pub number_back : (number img : List ℕ) → length number ≡ 8 → is_image n img ≡ true → gaps_blank n img ≡ true
       → number_part n (sheet_of n number img) ≡ number
-  pub image-back : (number img : List ℕ) → length number ≡ 8 → is_image n img ≡ true → gaps_blank n img ≡ true
+  pub image_back : (number img : List ℕ) → length number ≡ 8 → is_image n img ≡ true → gaps_blank n img ≡ true
       → image_part n (sheet_of n number img) ≡ img
   -- a sheet is the one that its number and its image make; they are of the right lengths
   pub whole : (s : List ℕ) → is_sheet n s ≡ true → sheet_of n (number_part n s) (image_part n s) ≡ s
-  pub number-length : (s : List ℕ) → is_sheet n s ≡ true → length (number_part n s) ≡ 8
-  pub image-length : (s : List ℕ) → is_sheet n s ≡ true → is_image n (image_part n s) ≡ true
+  pub number_length : (s : List ℕ) → is_sheet n s ≡ true → length (number_part n s) ≡ 8
+  pub image_length : (s : List ℕ) → is_sheet n s ≡ true → is_image n (image_part n s) ≡ true

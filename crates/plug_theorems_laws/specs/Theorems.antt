@@ -46,10 +46,10 @@ pub record Theorems (n : ℕ) : Type 1 where
   -- Demand 2, the chip: its replies and its image over whole sessions, in the data sheet's words; which states draw 2.
   pub states : StateLaws n
   pub ranges : ChipRanges n (32 * n + (0x100 + n)) (32 * n) (0x100 + n)
-  pub rom-commands : RomSessionLaws n
+  pub rom_commands : RomSessionLaws n
   pub reads : ReadSessionLaws n
   pub writes : WriteLaws n
-  pub whole-writes : WrittenLaws n
+  pub whole_writes : WrittenLaws n
   pub pulses : PulseLaws n
   pub bytes : ByteLaws n
   pub gaps : GapLaws n
@@ -59,12 +59,12 @@ pub record Theorems (n : ℕ) : Type 1 where
   pub notices : NoticeLaws n
   -- Demand 2, the reading masters: they play their scripts whatever the replies, and joined to a chip they tell what it holds.
   pub number_read : NumberLaws n
-  pub page-read : PageLaws n
+  pub page_read : PageLaws n
   -- The publisher: which updates its start accepts, and that its calls play the update's script.
   pub start : (kind : UpdateKind) (img new : List ℕ) (p : ℕ) → StartLaws n kind img new p
   pub calls : CallLaws n
   -- Demand 3, of every kind of update.
-  pub demand-3 : Demand3Of n
+  pub demand_3 : Demand3Of n
   -- M-102: what the lookup's answers mean, and what they are while a page is superseded.
   pub lookup : (img : List ℕ) (latitude : ℤ) (column : ℕ) → AnswerLaws n img latitude column
   pub superseding : (kind : UpdateKind) (c : Chip) (new : List ℕ) (p : ℕ) (replies : List Bool)
@@ -81,20 +81,20 @@ pub record Figures : Type 1 where
   pub refusals : RefusalLaws
   -- 66 + 1,089 + 66 + 1 = 1,222 events and the visible one 1,213; in the quick mode 678 and 669
   pub counts : Counts
-  pub crc-table : (polynomial : ℕ) → TableLaws polynomial
+  pub crc_table : (polynomial : ℕ) → TableLaws polynomial
   pub tenths : TenthsLaws
-  pub event-codes : CodeLaws
+  pub event_codes : CodeLaws
   pub decimals : DecimalLaws
-  pub packed-chip : ChipPacking
-  pub packed-number : NumberPacking
-  pub packed-page : PagePacking
-  pub packed-publisher : PublisherPacking
-  pub ds2505-ranges : ChipRanges 64 2368 0x800 0x140
-  pub ds2505-starts : Ds2505Starts
-  pub ds2505-rows : (img : List ℕ) → Ds2505Rows img
+  pub packed_chip : ChipPacking
+  pub packed_number : NumberPacking
+  pub packed_page : PagePacking
+  pub packed_publisher : PublisherPacking
+  pub ds2505_ranges : ChipRanges 64 2368 0x800 0x140
+  pub ds2505_starts : Ds2505Starts
+  pub ds2505_rows : (img : List ℕ) → Ds2505Rows img
 
 -- what is proved
 pub record Proved : Type 1 where
-  pub of-every-count : (n : ℕ) → PageCount n → Theorems n
-  pub of-the-ds2505 : Theorems 64
+  pub of_every_count : (n : ℕ) → PageCount n → Theorems n
+  pub of_the_ds2505 : Theorems 64
   pub figures : Figures

@@ -32,12 +32,7 @@ fn next_size(input: &mut impl Read) -> io::Result<usize> {
 }
 
 // Reads a sheet of that length and lists it; false where there is no room for it or the input ends first.
-fn one(
-    rt: &impl Print,
-    input: &mut impl Read,
-    sheet: &mut [u8],
-    size: usize,
-) -> io::Result<bool> {
+fn one(rt: &impl Print, input: &mut impl Read, sheet: &mut [u8], size: usize) -> io::Result<bool> {
     if sheet.len() < size {
         return Ok(false);
     }

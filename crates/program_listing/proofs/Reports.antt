@@ -10,12 +10,12 @@ use Rattle.base_types.specs.Refusal.{number_of}
 use Rattle.base_types.specs.declared.refusal.Refusal.{Refusal}
 use Rattle.base_types.specs.Outcome.{accepted, judge, unless_refused}
 use Rattle.chip_memory.specs.Page.{copied}
-use Rattle.chip_memory.proofs.Pages.{copied-length}
+use Rattle.chip_memory.proofs.Pages.{copied_length}
 use Rattle.plug_sheet.specs.declared.list.Listed.{Listed}
 use Rattle.plug_sheet.specs.declared.list.Listed.TheVariants.{Refused, Text}
 use Rattle.plug_sheet.specs.Stored.{is_sheet, image_part}
 use Rattle.plug_sheet.specs.List.{room_for, list_of, refused_line, list_outcome, list_answer, list_buffer, refusal_answer, refusal_buffer}
-use Rattle.plug_sheet.proofs.Texts.{decimal-length, list-laws}
+use Rattle.plug_sheet.proofs.Texts.{decimal_length, list_laws}
 use Rattle.program_listing.specs.Report.{report_of, report_buffer}
 
 -- so many bytes were written over a buffer, and they are this text
@@ -29,23 +29,23 @@ abbrev pub size_of : Listed → ℕ
 size_of (Refused r) = 0
 size_of (Text size) = size
 
-pub refusal-written : (n : ℕ) (r : Refusal) (old new : List ℕ) → room_for n ≤ length old
+pub refusal_written : (n : ℕ) (r : Refusal) (old new : List ℕ) → room_for n ≤ length old
     → (l : Listed) → list_outcome l ≡ refusal_answer n r old → new ≡ refusal_buffer n r old → ReportWritten (size_of l) (refused_line (number_of r)) old new
 unfolding refusal_answer refusal_buffer
-refusal-written n r old new room (Text size) e f =
+refusal_written n r old new room (Text size) e f =
     let enough = le-leb (room_for n) (length old) room in
     let told : list_outcome (Text size) ≡ accepted (length (refused_line (number_of r))) = rw enough at e in
     (cc, rw enough at f)
-refusal-written n r old new room (Refused q) e f =
+refusal_written n r old new room (Refused q) e f =
     let told : list_outcome (Refused q) ≡ accepted (length (refused_line (number_of r))) = rw (le-leb (room_for n) (length old) room) at e in
     absurd (let y : ◌≡◌ {A = ℕ} 0 1 = cc in omega arith)
 
 -- ---- the report
 
 module _ (n : ℕ) (s old new : List ℕ) (room : room_for n ≤ length old) (f : new ≡ list_buffer n s old) where
-  pub report-written : (size : ℕ) → list_outcome (Text size) ≡ list_answer n s old → (size ≡ length (report_of n s)) × (new ≡ report_buffer n s old)
+  pub report_written : (size : ℕ) → list_outcome (Text size) ≡ list_answer n s old → (size ≡ length (report_of n s)) × (new ≡ report_buffer n s old)
   unfolding list_answer list_buffer report_of report_buffer
-  report-written size e = go (is_sheet n s) (rw (le-leb (room_for n) (length old) room) at e) (rw (le-leb (room_for n) (length old) room) at f)
+  report_written size e = go (is_sheet n s) (rw (le-leb (room_for n) (length old) room) at e) (rw (le-leb (room_for n) (length old) room) at f)
     where
       go : (d : Bool) → list_outcome (Text size) ≡ judge d 12 (accepted (length (list_of n (image_part n s))))
           → new ≡ unless_refused (judge {A = ℕ} d 12 (accepted (length (list_of n (image_part n s))))) (copied (list_of n (image_part n s)) old) old
@@ -54,9 +54,9 @@ module _ (n : ℕ) (s old new : List ℕ) (room : room_for n ≤ length old) (f 
       go false e f = absurd (let y : ◌≡◌ {A = ℕ} 0 1 = cc in omega arith)
 
   -- of a refused sheet the line of that refusal is reported, and the buffer is as it was
-  pub report-refused : (r : Refusal) → list_outcome (Refused r) ≡ list_answer n s old → (refused_line (number_of r) ≡ report_of n s) × (new ≡ old)
+  pub report_refused : (r : Refusal) → list_outcome (Refused r) ≡ list_answer n s old → (refused_line (number_of r) ≡ report_of n s) × (new ≡ old)
   unfolding list_answer list_buffer report_of
-  report-refused r e = go (is_sheet n s) (rw (le-leb (room_for n) (length old) room) at e) (rw (le-leb (room_for n) (length old) room) at f)
+  report_refused r e = go (is_sheet n s) (rw (le-leb (room_for n) (length old) room) at e) (rw (le-leb (room_for n) (length old) room) at f)
     where
       go : (d : Bool) → list_outcome (Refused r) ≡ judge d 12 (accepted (length (list_of n (image_part n s))))
           → new ≡ unless_refused (judge {A = ℕ} d 12 (accepted (length (list_of n (image_part n s))))) (copied (list_of n (image_part n s)) old) old
@@ -65,14 +65,14 @@ module _ (n : ℕ) (s old new : List ℕ) (room : room_for n ≤ length old) (f 
       go false e f = (let k : number_of r ≡ 12 = cc in ap refused_line k, f)
 
 -- every report has room, and a buffer keeps its length
-pub report-fits : (n : ℕ) (s : List ℕ) → length (report_of n s) ≤ room_for n
+pub report_fits : (n : ℕ) (s : List ℕ) → length (report_of n s) ≤ room_for n
 unfolding report_of refused_line
-report-fits n s = go (is_sheet n s)
+report_fits n s = go (is_sheet n s)
   where
     go : (d : Bool) → length (cond d (list_of n (image_part n s)) (refused_line 12)) ≤ room_for n
-    go true = (list-laws n).fits (image_part n s)
-    go false = simp length-append (omega (arith, decimal-length 12))
+    go true = (list_laws n).fits (image_part n s)
+    go false = simp length-append (omega (arith, decimal_length 12))
 
-pub buffer-length : (n : ℕ) (s text : List ℕ) → length (report_buffer n s text) ≡ length text
+pub buffer_length : (n : ℕ) (s text : List ℕ) → length (report_buffer n s text) ≡ length text
 unfolding report_buffer
-buffer-length n s text = copied-length (report_of n s) text
+buffer_length n s text = copied_length (report_of n s) text

@@ -21,24 +21,24 @@ use Rattle.program_text.specs.Numeral.{is_digit, digits_from, natural_of, is_neg
 -- ---- one step of the loop
 
 module _ (v : ℕ) (text : List ℕ) (i : ℕ) where
-  pub digits-next : i < length text → is_digit (get_or text i 0) ≡ true
+  pub digits_next : i < length text → is_digit (get_or text i 0) ≡ true
       → digits_from v (drop i text) ≡ digits_from (10 * v + (get_or text i 0 - 48)) (drop (i + 1) text)
   unfolding digits_from
-  digits-next h e = rw add-one (ap (digits_from v) (drop-cons text i 0 h) ∙ simp e)
+  digits_next h e = rw add-one (ap (digits_from v) (drop-cons text i 0 h) ∙ simp e)
 
-  pub digits-stop : i < length text → is_digit (get_or text i 0) ≡ false → digits_from v (drop i text) ≡ Faulty
+  pub digits_stop : i < length text → is_digit (get_or text i 0) ≡ false → digits_from v (drop i text) ≡ Faulty
   unfolding digits_from
-  digits-stop h e = ap (digits_from v) (drop-cons text i 0 h) ∙ simp e
+  digits_stop h e = ap (digits_from v) (drop-cons text i 0 h) ∙ simp e
 
-  pub digits-end : length text ≤ i → digits_from v (drop i text) ≡ Number v
+  pub digits_end : length text ≤ i → digits_from v (drop i text) ≡ Number v
   unfolding digits_from
-  digits-end h = ap (digits_from v) (drop_of_length-le text h)
+  digits_end h = ap (digits_from v) (drop_of_length-le text h)
 
 -- ---- bounds
 
-pub digit-bounds : (b : ℕ) → is_digit b ≡ true → (48 ≤ b) × (b ≤ 57)
+pub digit_bounds : (b : ℕ) → is_digit b ≡ true → (48 ≤ b) × (b ≤ 57)
 unfolding is_digit
-digit-bounds b e = go (leb 48 b) (leb b 57) refl refl e
+digit_bounds b e = go (leb 48 b) (leb b 57) refl refl e
   where
     go : (t u : Bool) → leb 48 b ≡ t → leb b 57 ≡ u → (t && u) ≡ true → (48 ≤ b) × (b ≤ 57)
     go true true f g h = (leb-true 48 b f, leb-true b 57 g)
@@ -46,34 +46,34 @@ digit-bounds b e = go (leb 48 b) (leb b 57) refl refl e
     go false u f g h = absurd (let z : ◌≡◌ {A = ℕ} 0 1 = cc in omega arith)
 
 -- the number of i digits is below 10 ^ i
-pub next-below : (v i b : ℕ) → v < 10 ^ i → is_digit b ≡ true → 10 * v + (b - 48) < 10 ^ (i + 1)
-next-below v i b h e = rw (add-one, pow-suc) (omega (arith, digit-bounds b e))
+pub next_below : (v i b : ℕ) → v < 10 ^ i → is_digit b ≡ true → 10 * v + (b - 48) < 10 ^ (i + 1)
+next_below v i b h e = rw (add-one, pow-suc) (omega (arith, digit_bounds b e))
 
-pub eight-below : (v i : ℕ) → v < 10 ^ i → i < 9 → v < 100000000
-eight-below v i h k =
+pub eight_below : (v i : ℕ) → v < 10 ^ i → i < 9 → v < 100000000
+eight_below v i h k =
     let few : i ≤ 8 = omega arith in
     let p : 10 ^ i ≤ 10 ^ 8 = pow-le-pow_right (lit< tt) few in
     omega arith
 
-digits-below : (text : List ℕ) (v i x : ℕ) → v < 10 ^ i → digits_from v text ≡ Number x → x < 10 ^ (i + length text)
+digits_below : (text : List ℕ) (v i x : ℕ) → v < 10 ^ i → digits_from v text ≡ Number x → x < 10 ^ (i + length text)
 unfolding digits_from
-digits-below [] v i x h e = let s : v ≡ x = cc in rw (add-zero, ← s) h
-digits-below (b ∷ bs) v i x h e = go (is_digit b) refl e (λ d. digits-below bs (10 * v + (b - 48)) (i + 1) x (next-below v i b h d))
+digits_below [] v i x h e = let s : v ≡ x = cc in rw (add-zero, ← s) h
+digits_below (b ∷ bs) v i x h e = go (is_digit b) refl e (λ d. digits_below bs (10 * v + (b - 48)) (i + 1) x (next_below v i b h d))
   where
     go : (t : Bool) → is_digit b ≡ t → cond t (digits_from (10 * v + (b - 48)) bs) Faulty ≡ Number x
         → (is_digit b ≡ true → digits_from (10 * v + (b - 48)) bs ≡ Number x → x < 10 ^ (i + 1 + length bs)) → x < 10 ^ (i + suc (length bs))
     go true d k f = let s : i + 1 + length bs ≡ i + suc (length bs) = omega arith in rw s at (f d k)
     go false d k f = absurd (let z : ◌≡◌ {A = ℕ} 0 1 = cc in omega arith)
 
-pub natural-below : (text : List ℕ) (x : ℕ) → natural_of text ≡ Number x → x < 1000000000
+pub natural_below : (text : List ℕ) (x : ℕ) → natural_of text ≡ Number x → x < 1000000000
 unfolding natural_of
-natural-below text x e = go (leb 1 (length text)) (leb (length text) 9) refl e
+natural_below text x e = go (leb 1 (length text)) (leb (length text) 9) refl e
   where
     go : (t u : Bool) → leb (length text) 9 ≡ u → cond (t && u) (digits_from 0 text) Faulty ≡ Number x → x < 1000000000
     go true true f k =
         let few : length text ≤ 9 = leb-true (length text) 9 f in
         let p : 10 ^ length text ≤ 10 ^ 9 = pow-le-pow_right (lit< tt) few in
-        let y = digits-below text 0 0 x (lit< tt) k in
+        let y = digits_below text 0 0 x (lit< tt) k in
         let z : 0 + length text ≡ length text = omega arith in
         let q : x < 10 ^ length text = rw z at y in
         omega arith
@@ -87,15 +87,15 @@ unfolding is_negative
 no_minus [] h = refl
 no_minus (b ∷ bs) h = absurd (omega arith)
 
-pub first-minus : (text : List ℕ) → 1 ≤ length text → is_negative text ≡ eqb (get_or text 0 0) 45
+pub first_minus : (text : List ℕ) → 1 ≤ length text → is_negative text ≡ eqb (get_or text 0 0) 45
 unfolding is_negative
-first-minus [] h = absurd (omega arith)
-first-minus (b ∷ bs) h = refl
+first_minus [] h = absurd (omega arith)
+first_minus (b ∷ bs) h = refl
 
-pub minus-some : (text : List ℕ) → is_negative text ≡ true → 1 ≤ length text
+pub minus_some : (text : List ℕ) → is_negative text ≡ true → 1 ≤ length text
 unfolding is_negative
-minus-some [] e = absurd (let z : ◌≡◌ {A = ℕ} 0 1 = cc in omega arith)
-minus-some (b ∷ bs) e = omega arith
+minus_some [] e = absurd (let z : ◌≡◌ {A = ℕ} 0 1 = cc in omega arith)
+minus_some (b ∷ bs) e = omega arith
 
 -- ---- a number of nine digits, negated by the machine
 
@@ -103,12 +103,12 @@ minus_is : (x : ℕ) → pos 0 -ℤ pos x ≡ neg_ℤ (pos x)
 minus_is zero = refl
 minus_is (suc x) = let e : suc x - 1 ≡ x = omega arith in simp (lt-ltb 0 (suc x) (omega arith), e)
 
-minus-mag : (x : ℕ) → mag (neg_ℤ (pos x)) ≤ x
-minus-mag zero = omega arith
-minus-mag (suc x) = omega arith
+minus_mag : (x : ℕ) → mag (neg_ℤ (pos x)) ≤ x
+minus_mag zero = omega arith
+minus_mag (suc x) = omega arith
 
-pub negated-is : (x : ℕ) → x < 1000000000 → pos 0 -ℤ to_z w32 x ≡ neg_ℤ (pos x)
-negated-is x h = rw (to_z_pos w32 x (omega arith)) (minus_is x)
+pub negated_is : (x : ℕ) → x < 1000000000 → pos 0 -ℤ to_z w32 x ≡ neg_ℤ (pos x)
+negated_is x h = rw (to_z_pos w32 x (omega arith)) (minus_is x)
 
 pub negated_fits : (x : ℕ) → x < 1000000000 → SFits w32 (pos 0 -ℤ to_z w32 x)
-negated_fits x h = rw (negated-is x h) (record { sfits = omega (arith, minus-mag x) })
+negated_fits x h = rw (negated_is x h) (record { sfits = omega (arith, minus_mag x) })

@@ -10,7 +10,9 @@ use std::io;
 use std::io::Read;
 
 fn print_usage(rt: &impl Eprint) -> io::Result<()> {
-    eprintln!(rt; "usage: variation LATITUDE COLUMN <SHEET: the latitude in tenths of a degree, the column from 0, one to nine digits each")
+    eprintln!(rt;
+        "usage: variation LATITUDE COLUMN <SHEET: the latitude in tenths of a degree, the column from 0, one to nine digits each"
+    )
 }
 
 // One byte more than a sheet has is read, so that a longer input is refused.

@@ -95,12 +95,7 @@ fn questions(
 }
 
 // Reads a sheet of that length and answers its questions; false where there is no room for it or the input ends first.
-fn one(
-    rt: &impl Print,
-    input: &mut impl Read,
-    sheet: &mut [u8],
-    size: usize,
-) -> io::Result<bool> {
+fn one(rt: &impl Print, input: &mut impl Read, sheet: &mut [u8], size: usize) -> io::Result<bool> {
     if sheet.len() < size {
         return Ok(false);
     }

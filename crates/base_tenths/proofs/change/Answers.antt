@@ -6,7 +6,7 @@ use mir.Val.{SFits, to_z, of_z}
 use mir.ValLaws.{to_z-of_z}
 use Rattle.base_types.specs.Outcome.{Outcome, accepted}
 use Rattle.base_tenths.specs.Tenths.{is_value, Folds, fold_of, change_answer}
-use Rattle.base_tenths.proofs.Integers.{difference-fits}
+use Rattle.base_tenths.proofs.Integers.{difference_fits}
 use Rattle.base_tenths.proofs.Laws.{folds}
 use Rattle.base_tenths.proofs.change.Goals as goal
 
@@ -35,7 +35,7 @@ pub overflow_sub-new : goal.overflow_sub-new
 overflow_sub-new c =
     let o = judged _ c.ranges.old c.is_value.ensures c.if-not-is_value.false in
     let n = judged _ c.ranges.new c.is_value-2.ensures c.if-not-is_value-2.false in
-    rw (to_z-of_z w32 c.args.old c.ranges.old, to_z-of_z w32 c.args.new c.ranges.new) (difference-fits c.args.old c.args.new o n)
+    rw (to_z-of_z w32 c.args.old c.ranges.old, to_z-of_z w32 c.args.new c.ranges.new) (difference_fits c.args.old c.args.new o n)
 
 pub returns : goal.returns
 unfolding change_answer

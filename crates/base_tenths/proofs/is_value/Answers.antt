@@ -1,7 +1,7 @@
 use mir.Syntax.{w32}
 use mir.ValLaws.{to_z-of_z}
 use Rattle.base_tenths.specs.Tenths.{least, is_value}
-use Rattle.base_tenths.proofs.Integers.{lt_not_le, not-lt-le}
+use Rattle.base_tenths.proofs.Integers.{lt_not_le, not_lt_le}
 use Rattle.base_tenths.proofs.is_value.Goals as goal
 
 pub returns-then-v-ltminus1800 : goal.returns-then-v-ltminus1800
@@ -12,4 +12,4 @@ returns-then-v-ltminus1800 c = let e = to_z-of_z w32 c.args.v c.ranges.v in
 pub returns : goal.returns
 unfolding is_value
 returns c = let e = to_z-of_z w32 c.args.v c.ranges.v in
-    rw e (simp (not-lt-le c.args.v least (rw e at c.if-v-ltminus1800.false)))
+    rw e (simp (not_lt_le c.args.v least (rw e at c.if-v-ltminus1800.false)))

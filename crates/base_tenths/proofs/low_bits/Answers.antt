@@ -7,7 +7,7 @@ use mir.Syntax.{w32, w64}
 use mir.Val.{to_z, of_z}
 use mir.ValLaws.{to_z-of_z}
 use Rattle.base_tenths.specs.Tenths.{low_bits}
-use Rattle.base_tenths.proofs.Integers.{raised-nonneg, raised-mag}
+use Rattle.base_tenths.proofs.Integers.{raised_nonneg, raised_mag}
 use Rattle.base_tenths.proofs.low_bits.Goals as goal
 use Rattle.base_tenths.proofs.low_bits.Goals.{Start}
 
@@ -19,14 +19,14 @@ number_is : (c : Start) → to_z w64 (of_z w64 (to_z w32 (of_z w32 c.args.v))) �
 number_is c = to_z-of_z w64 _ (overflow_cast-result c) ∙ to_z-of_z w32 c.args.v c.ranges.v
 
 pub overflow_add-result : goal.overflow_add-result
-overflow_add-result c = rw (number_is c) (record { sfits = omega (arith, raised-mag c.args.v c.ranges.v.sfits) })
+overflow_add-result c = rw (number_is c) (record { sfits = omega (arith, raised_mag c.args.v c.ranges.v.sfits) })
 
 sum_is : (c : Start) → to_z w64 (of_z w64 (to_z w64 (of_z w64 (to_z w32 (of_z w32 c.args.v))) +ℤ pos 0x100000000)) ≡ c.args.v +ℤ pos 0x100000000
 sum_is c = to_z-of_z w64 _ (overflow_add-result c) ∙ ap (λ (z : ℤ). z +ℤ pos 0x100000000) (number_is c)
 
 pub overflow_cast-result-2 : goal.overflow_cast-result-2
 overflow_cast-result-2 c = rw (sum_is c)
-    (raised-nonneg c.args.v c.ranges.v.sfits, record { fits = omega (arith, nat_abs-le (c.args.v +ℤ pos 0x100000000) (raised-mag c.args.v c.ranges.v.sfits)) })
+    (raised_nonneg c.args.v c.ranges.v.sfits, record { fits = omega (arith, nat_abs-le (c.args.v +ℤ pos 0x100000000) (raised_mag c.args.v c.ranges.v.sfits)) })
 
 pub returns : goal.returns
 unfolding low_bits

@@ -12,10 +12,10 @@ use Rattle.master_plan.specs.Places.{head_of}
 use Rattle.master_plan.specs.Code.At.{head_byte}
 use Rattle.master_plan.proofs.head_byte.Goals as goal
 
-past-selecting : (kind : UpdateKind) (target : Target) (j k : ℕ) → j - length (selecting kind.selection) ≡ k → length (selecting kind.selection) ≤ j
+past_selecting : (kind : UpdateKind) (target : Target) (j k : ℕ) → j - length (selecting kind.selection) ≡ k → length (selecting kind.selection) ≤ j
     → get_or (head_of kind.mode target) k 0 ≡ head_byte kind target j
 unfolding head_byte
-past-selecting kind target j k e le =
+past_selecting kind target j k e le =
     let z : j ≡ length (selecting kind.selection) + k = omega arith in
     sym (ap (λ (i : ℕ). get_or (selecting kind.selection ++ head_of kind.mode target) i 0) z ∙ get_or-append-add (selecting kind.selection) _ k 0)
 
@@ -35,7 +35,7 @@ overflow_cast-result c = omega (arith, mask_lt c.address_of.result 8)
 
 pub returns-in-0 : goal.returns-in-0
 unfolding head_byte
-returns-in-0 c = c.command.ensures ∙ past-selecting c.args.kind c.args.target
+returns-in-0 c = c.command.ensures ∙ past_selecting c.args.kind c.args.target
     c.args.j 0 (omega (
       arith,
       c.in-0.is,
@@ -50,7 +50,7 @@ returns-in-0 c = c.command.ensures ∙ past-selecting c.args.kind c.args.target
 pub returns-in-1 : goal.returns-in-1
 unfolding head_byte
 returns-in-1 c = and_mask c.address_of.result 8 ∙ ap (λ (x : ℕ). x % 256) c.address_of.ensures
-    ∙ past-selecting c.args.kind c.args.target
+    ∙ past_selecting c.args.kind c.args.target
     c.args.j 1 (omega (
       arith,
       c.in-1.is,
@@ -65,7 +65,7 @@ returns-in-1 c = and_mask c.address_of.result 8 ∙ ap (λ (x : ℕ). x % 256) c
 pub returns-in-2 : goal.returns-in-2
 unfolding head_byte
 returns-in-2 c = ap (λ (x : ℕ). x / 256) c.address_of-in-2.ensures
-    ∙ past-selecting c.args.kind c.args.target
+    ∙ past_selecting c.args.kind c.args.target
     c.args.j 2 (omega (
       arith,
       c.in-2.is,

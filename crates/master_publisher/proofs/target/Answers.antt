@@ -7,8 +7,8 @@ use Rattle.master_plan.specs.declared.kind.Placement.TheVariants.{LowestFree}
 use Rattle.master_publisher.specs.Start.{target_by}
 use Rattle.master_publisher.proofs.target.Goals as goal
 
-lowest-placed : (place : Placement) (n : ℕ) (img : List ℕ) (l : ℕ) → lowest_free n img l ≡ target_by place n img l
-lowest-placed LowestFree n img l = refl
+lowest_placed : (place : Placement) (n : ℕ) (img : List ℕ) (l : ℕ) → lowest_free n img l ≡ target_by place n img l
+lowest_placed LowestFree n img l = refl
 
 pub returns : goal.returns
-returns c = c.lowest_free.ensures ∙ lowest-placed c.args.placement _ _ _
+returns c = c.lowest_free.ensures ∙ lowest_placed c.args.placement _ _ _

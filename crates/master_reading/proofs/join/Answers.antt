@@ -3,7 +3,7 @@ use mathlib.Core.Path.{◌≡◌, refl, sym, ap, ap₂, ◌∙◌}
 use mathlib.Core.List.{List}
 use native.Mathlib.Omega.{arith}
 use lib.ListN.{length}
-use Rattle.chip_memory.proofs.Sizes.{image-length, page-below}
+use Rattle.chip_memory.proofs.Sizes.{image_length, page_below}
 use Rattle.chip_entries.specs.declared.event.State.{State}
 use Rattle.chip_entries.specs.Run.{Chip, line_of}
 use Rattle.chip_session_laws.specs.Session.{Bytes}
@@ -11,17 +11,17 @@ use Rattle.master_page.specs.declared.PageRead.{PageRead}
 use Rattle.master_page.specs.PageRead.{read_outcome}
 use Rattle.master_page_laws.specs.Heard.{page_events_for}
 use Rattle.master_page.specs.Held.{PageHeld}
-use Rattle.master_reading.proofs.Turns.{UnderWay, turned, more, ended, below, begins-as, at_most}
+use Rattle.master_reading.proofs.Turns.{UnderWay, turned, more, ended, below, begins_as, at_most}
 use Rattle.master_reading.proofs.join.Invariants.{held, chip_of}
 use Rattle.master_reading.proofs.join.Goals as goal
 
 pub loop-e-init : goal.loop-e-init
 loop-e-init c = let a = c.args in
-    let sized = image-length 64 a.image.now c.requires.0 in
-    let inside = page-below 64 a.page c.requires.2 in
+    let sized = image_length 64 a.image.now c.requires.0 in
+    let inside = page_below 64 a.page c.requires.2 in
     let small : Bytes a.image.now = λ i. (c.type_inv.image i).fits in
     let eight = c.well_formed.1.0.1.0.1 in (
-      begins-as a.number a.image.now a.buffer.now a.page sized small eight inside c.requires.1 _ _ c.start-started.ensures.state
+      begins_as a.number a.image.now a.buffer.now a.page sized small eight inside c.requires.1 _ _ c.start-started.ensures.state
           c.power_up-chip.ensures,
       refl,
       refl,

@@ -3,7 +3,7 @@ use mathlib.Core.Path.{◌≡◌, refl, sym, ap, ap₂, ◌∙◌}
 use mathlib.Core.List.{List}
 use native.Mathlib.Omega.{arith}
 use lib.ListN.{length}
-use Rattle.chip_memory.proofs.Sizes.{image-length, page-below}
+use Rattle.chip_memory.proofs.Sizes.{image_length, page_below}
 use Rattle.chip_entries.specs.declared.event.State.{State}
 use Rattle.chip_entries.specs.Run.{Chip, line_of}
 use Rattle.chip_session_laws.specs.Session.{Bytes}
@@ -11,7 +11,7 @@ use Rattle.master_page.specs.declared.PageRead.{PageRead}
 use Rattle.master_page.specs.PageRead.{read_outcome}
 use Rattle.master_page_laws.specs.Heard.{page_events_for}
 use Rattle.master_page.specs.Held.{PageHeld}
-use Rattle.master_reading.proofs.Turns.{UnderWay, turned, more, ended, below, begins-as, at_most}
+use Rattle.master_reading.proofs.Turns.{UnderWay, turned, more, ended, below, begins_as, at_most}
 use Rattle.master_reading.proofs.join.Given as goal
 
 abbrev pub held : PageRead → List ℕ → PageHeld

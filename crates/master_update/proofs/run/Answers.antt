@@ -4,7 +4,7 @@ use lib.ListN.{length}
 use borrow.Author.Tests.{not-true}
 use Rattle.master_update.specs.declared.Joined.{Joined}
 use Rattle.master_update.specs.Update.{called, run_for}
-use Rattle.master_update.proofs.Runs.{run-next, run_none, run-ended}
+use Rattle.master_update.proofs.Runs.{run_next, run_none, run_ended}
 use Rattle.master_update.proofs.run.Goals as goal
 
 pub loop-left-init : goal.loop-left-init
@@ -15,11 +15,11 @@ shape_of-image-then-not-is_running c = c.loop-left.invariant.1
 
 pub returns-then-not-is_running : goal.returns-then-not-is_running
 returns-then-not-is_running c = let l = c.loop-left in
-    sym (run-ended 64 l.left l.j l.image (sym c.is_running.ensures ∙ c.if-not-is_running.true)) ∙ l.invariant.0
+    sym (run_ended 64 l.left l.j l.image (sym c.is_running.ensures ∙ c.if-not-is_running.true)) ∙ l.invariant.0
 
 pub loop-left-preserved : goal.loop-left-preserved
 loop-left-preserved c = let l = c.loop-left in (
-  ap (λ (k : Joined). run_for 64 (l.left - 1) k c.call_once-j.new.image) c.call_once-j.ensures.joined ∙ ap (run_for 64 (l.left - 1) (called 64 l.j l.image)) c.call_once-j.ensures.image ∙ run-next 64 l.left l.j l.image c.loop-left-test.true ∙ l.invariant.0,
+  ap (λ (k : Joined). run_for 64 (l.left - 1) k c.call_once-j.new.image) c.call_once-j.ensures.joined ∙ ap (run_for 64 (l.left - 1) (called 64 l.j l.image)) c.call_once-j.ensures.image ∙ run_next 64 l.left l.j l.image c.loop-left-test.true ∙ l.invariant.0,
   c.call_once-j.auto.image ∙ l.invariant.1,
 )
 

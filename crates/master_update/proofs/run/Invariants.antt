@@ -4,7 +4,7 @@ use lib.ListN.{length}
 use borrow.Author.Tests.{not-true}
 use Rattle.master_update.specs.declared.Joined.{Joined}
 use Rattle.master_update.specs.Update.{called, run_for}
-use Rattle.master_update.proofs.Runs.{run-next, run_none, run-ended}
+use Rattle.master_update.proofs.Runs.{run_next, run_none, run_ended}
 use Rattle.master_update.proofs.run.Given as goal
 
 abbrev pub invariant-loop-left : goal.invariant-loop-left

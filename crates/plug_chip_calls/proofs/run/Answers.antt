@@ -5,7 +5,7 @@ use Rattle.chip_entries.specs.declared.event.State.{State}
 use Rattle.chip_entries.specs.Event.{power_up}
 use Rattle.chip_entries.specs.Run.{run_answer, ran_chip, ran_replies}
 use Rattle.plug_answers.specs.Answers.{code_in}
-use Rattle.plug_chip_calls.proofs.Judged.{whole-judged}
+use Rattle.plug_chip_calls.proofs.Judged.{whole_judged}
 use Rattle.plug_chip_calls.specs.Chip.{whole_answer, whole_image, whole_replies}
 use Rattle.plug_chip_calls.proofs.run.Goals as goal
 
@@ -36,7 +36,7 @@ returns c = let a = c.args in
           ∙ ap (λ (t : Outcome Done). code_in t)
           (c.run-ran.ensures.answer
           ∙ ap (λ (s : State). run_answer 64 s a.events.now a.image.now a.replies.now) begins
-          ∙ whole-judged a.number.now a.events.now a.image.now a.replies.now eight);
+          ∙ whole_judged a.number.now a.events.now a.image.now a.replies.now eight);
       image = simp eight (c.run-ran.ensures.image ∙ ap (λ (s : State). (ran_chip 64 s a.events.now a.image.now a.replies.now).image) begins);
       replies = simp eight (c.run-ran.ensures.replies ∙ ap (λ (s : State). ran_replies 64 s a.events.now a.image.now a.replies.now) begins);
     }

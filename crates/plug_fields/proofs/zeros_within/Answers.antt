@@ -3,7 +3,7 @@ use mathlib.Core.Path.{◌≡◌, refl, ◌∙◌}
 use native.Mathlib.Omega.{arith}
 use lib.ListN.{replicate, length}
 use Rattle.plug_fields.specs.Fields.{same}
-use Rattle.plug_fields.proofs.Laws.{zeros-next, zeros-not, zeros-end}
+use Rattle.plug_fields.proofs.Laws.{zeros_next, zeros_not, zeros_end}
 use borrow.Author.Rules.{rules}
 use Rattle.plug_fields.proofs.zeros_within.Goals as goal
 
@@ -14,7 +14,7 @@ pub bounds-b-i : goal.bounds-b-i
 bounds-b-i c = omega arith
 
 pub returns-then-b-i-ne0 : goal.returns-then-b-i-ne0
-returns-then-b-i-ne0 c = zeros-not _ _ _ c.loop-i-test.true c.if-b-i-ne0.true ∙ c.loop-i.invariant.1
+returns-then-b-i-ne0 c = zeros_not _ _ _ c.loop-i-test.true c.if-b-i-ne0.true ∙ c.loop-i.invariant.1
 
 pub overflow_add-i : goal.overflow_add-i
 overflow_add-i c = omega arith
@@ -23,7 +23,7 @@ pub loop-i-smaller : goal.loop-i-smaller
 loop-i-smaller c = omega arith
 
 pub loop-i-preserved : goal.loop-i-preserved
-loop-i-preserved c = (search rules, zeros-next _ _ _ c.loop-i-test.true c.if-b-i-ne0.false ∙ c.loop-i.invariant.1)
+loop-i-preserved c = (search rules, zeros_next _ _ _ c.loop-i-test.true c.if-b-i-ne0.false ∙ c.loop-i.invariant.1)
 
 pub returns : goal.returns
-returns c = zeros-end _ _ _ c.loop-i-test.false ∙ c.loop-i.invariant.1
+returns c = zeros_end _ _ _ c.loop-i-test.false ∙ c.loop-i.invariant.1

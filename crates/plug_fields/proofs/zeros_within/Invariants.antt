@@ -3,7 +3,7 @@ use mathlib.Core.Path.{◌≡◌, refl, ◌∙◌}
 use native.Mathlib.Omega.{arith}
 use lib.ListN.{replicate, length}
 use Rattle.plug_fields.specs.Fields.{same}
-use Rattle.plug_fields.proofs.Laws.{zeros-next, zeros-not, zeros-end}
+use Rattle.plug_fields.proofs.Laws.{zeros_next, zeros_not, zeros_end}
 use Rattle.plug_fields.proofs.zeros_within.Given as goal
 
 abbrev pub invariant-loop-i : goal.invariant-loop-i

@@ -1,5 +1,5 @@
 use Rattle.program_listing.specs.Report.{report_buffer}
-use Rattle.program_listing.proofs.Reports.{report-written, report-refused}
+use Rattle.program_listing.proofs.Reports.{report_written, report_refused}
 use Rattle.chip_memory.specs.Page.{copied}
 use Rattle.plug_sheet.specs.List.{room_for, list_outcome}
 use Prim.Native.Nat.{◌≤◌}
@@ -15,7 +15,7 @@ returns-in-Refused c =
     let a = c.args in
     let room : room_for 64 ≤ length a.text.now = search rules in
     let same =
-    report-refused 64 a.sheet.now a.text.now w.new.text room w.ensures.text c.in-Refused.r
+    report_refused 64 a.sheet.now a.text.now w.new.text room w.ensures.text c.in-Refused.r
     (sym (ap list_outcome c.in-Refused.is) ∙ w.ensures.answer) in
     record { size = c.refusal.ensures.size ∙ ap length same.0; text = c.refusal.ensures.text ∙ ap₂ copied same.0 same.1 }
 
@@ -26,6 +26,6 @@ returns-in-Text c =
     let a = c.args in
     let room : room_for 64 ≤ length a.text.now = search rules in
     let proved =
-    report-written 64 a.sheet.now a.text.now w.new.text room w.ensures.text c.in-Text.size
+    report_written 64 a.sheet.now a.text.now w.new.text room w.ensures.text c.in-Text.size
     (sym (ap list_outcome c.in-Text.is) ∙ w.ensures.answer) in
     record { size = proved.0; text = proved.1 }

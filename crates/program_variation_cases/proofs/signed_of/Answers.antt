@@ -13,11 +13,11 @@ less_one zero = refl
 less_one (suc r) = ap negsuc (omega arith)
 
 -- what is subtracted, as the machine reads it
-rest-is : (c : tie.Else1) → negsuc 0 -ℤ to_z w32 (0xFFFFFFFF - c.before.args.x) ≡ negsuc (0xFFFFFFFF - c.before.args.x)
-rest-is c = rw (to_z_pos w32 (0xFFFFFFFF - c.before.args.x) (omega arith)) (less_one (0xFFFFFFFF - c.before.args.x))
+rest_is : (c : tie.Else1) → negsuc 0 -ℤ to_z w32 (0xFFFFFFFF - c.before.args.x) ≡ negsuc (0xFFFFFFFF - c.before.args.x)
+rest_is c = rw (to_z_pos w32 (0xFFFFFFFF - c.before.args.x) (omega arith)) (less_one (0xFFFFFFFF - c.before.args.x))
 
 pub overflow_sub-result-2 : goal.overflow_sub-result-2
-overflow_sub-result-2 c = rw (rest-is c) (record { sfits = omega arith })
+overflow_sub-result-2 c = rw (rest_is c) (record { sfits = omega arith })
 
 pub returns : goal.returns
-returns c = to_z-of_z w32 _ (sub-result-2 c) ∙ rest-is c ∙ simp (le-ltb c.args.x 0x80000000 c.if-x-lt2147483648.false) (ap negsuc (omega arith))
+returns c = to_z-of_z w32 _ (sub-result-2 c) ∙ rest_is c ∙ simp (le-ltb c.args.x 0x80000000 c.if-x-lt2147483648.false) (ap negsuc (omega arith))

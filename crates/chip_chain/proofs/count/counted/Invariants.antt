@@ -6,7 +6,7 @@ use Rattle.chip_memory.specs.Layout.{page_count}
 use mathlib.Core.Logic.{⊎_elim}
 use native.Mathlib.Nat.{zero-add}
 use Rattle.base_types.specs.Scan.{count}
-use Rattle.base_types.proofs.Scan.{count-more, count_same, count-over}
+use Rattle.base_types.proofs.Scan.{count_more, count_same, count_over}
 use Rattle.chip_chain.specs.Code.Count.{is_counted}
 use Rattle.chip_chain.proofs.count.counted.Given as goal
 

@@ -7,7 +7,7 @@ use Rattle.chip_memory.specs.Image.{redirection_of}
 use mathlib.Core.Bool.{not}
 use Rattle.base_types.specs.Scan.{every}
 use Rattle.chip_chain.specs.Free.{names, is_unnamed}
-use Rattle.base_types.proofs.Scan.{every-fails, every-goes-on, every-over}
+use Rattle.base_types.proofs.Scan.{every_fails, every_goes_on, every_over}
 use Rattle.chip_chain.proofs.free.is_unnamed.Given as goal
 
 abbrev pub invariant-loop-q : goal.invariant-loop-q

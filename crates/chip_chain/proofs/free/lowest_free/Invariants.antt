@@ -5,7 +5,7 @@ use native.Mathlib.Nat.{sub-zero}
 use Rattle.chip_memory.specs.Layout.{page_count}
 use Rattle.chip_chain.specs.Scan.{first}
 use Rattle.chip_chain.specs.Free.{is_free_other, lowest_free}
-use Rattle.chip_chain.proofs.Scan.{first_found, first-goes-on, first-over}
+use Rattle.chip_chain.proofs.Scan.{first_found, first_goes_on, first_over}
 use Rattle.chip_chain.proofs.free.lowest_free.Given as goal
 
 abbrev pub invariant-loop-p : goal.invariant-loop-p

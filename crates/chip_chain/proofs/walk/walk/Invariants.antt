@@ -6,7 +6,7 @@ use Rattle.chip_memory.specs.Layout.{page_count}
 use Rattle.base_types.specs.declared.verdict.Verdict.TheVariants.{Outside}
 use Rattle.chip_memory.specs.Image.{redirection_of}
 use Rattle.chip_chain.specs.Walk.{named_by, walk_from, walk_of}
-use Rattle.chip_chain.proofs.Walks.{loop-valid, loop-beyond, loop-inside, loop-over}
+use Rattle.chip_chain.proofs.Walks.{loop_valid, loop_beyond, loop_inside, loop_over}
 use Rattle.chip_chain.proofs.walk.walk.Given as goal
 
 abbrev pub invariant-loop-hops : goal.invariant-loop-hops

@@ -3,7 +3,7 @@ use mathlib.Core.Path.{◌≡◌, refl, sym, ◌∙◌}
 use native.Mathlib.Omega.{arith}
 use lib.ListN.{length, drop}
 use Rattle.chip_entries.specs.Run.{are_events}
-use Rattle.chip_entries.proofs.Runs.{events-next, events-not, events-end}
+use Rattle.chip_entries.proofs.Runs.{events_next, events_not, events_end}
 use borrow.Author.Tests.{not-true, not-false}
 use Rattle.chip_entries.proofs.event.are_events.Given as goal
 

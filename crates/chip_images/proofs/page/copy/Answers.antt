@@ -3,8 +3,8 @@ use mathlib.Core.Path.{ap}
 use mathlib.Core.List.{List}
 use Rattle.chip_memory.specs.Image.{page_bytes}
 use Rattle.chip_memory.specs.Page.{copied}
-use Rattle.chip_memory.proofs.Pages.{page-length, copied-same}
-use Rattle.chip_memory.proofs.Sizes.{image-length, page-below}
+use Rattle.chip_memory.proofs.Pages.{page_length, copied_same}
+use Rattle.chip_memory.proofs.Sizes.{image_length, page_below}
 use mathlib.Core.Path.{◌∙◌, sym}
 use borrow.Author.Tests.{eq-eqb, ne_eqb, not-false, not-true}
 use Rattle.chip_images.specs.Page.{copy_answer, copy_buffer}
@@ -51,8 +51,8 @@ unfolding copy_answer copy_buffer
 returns c = let i = sym c.is_image.ensures ∙ c.if-not-is_image.false in
     let p = sym c.is_page.ensures ∙ c.if-not-is_page.false in
     let a = c.args in
-    let long = page-length 64 a.image.now a.page.0 (image-length 64 _ i) (page-below 64 _ p) in
+    let long = page_length 64 a.image.now a.page.0 (image_length 64 _ i) (page_below 64 _ p) in
     let same = c.copy.ensures ∙ ap (λ (l : List ℕ). copied l a.buffer.now) c.part.ensures ∙
-    copied-same (page_bytes a.image.now a.page.0) a.buffer.now (long ∙ sym c.if-buffer-ne32.false) in
+    copied_same (page_bytes a.image.now a.page.0) a.buffer.now (long ∙ sym c.if-buffer-ne32.false) in
     let b = eq-eqb _ _ c.if-buffer-ne32.false in
     record { answer = simp (i, b, p); buffer = simp (i, b, p) same }

@@ -1,7 +1,7 @@
 use Prim.Native.Nat.{◌+◌}
 use mathlib.Core.Path.{ap, ◌∙◌}
 use native.Mathlib.Omega.{arith}
-use Rattle.chip_stage.proofs.Addresses.{limit-fits}
+use Rattle.chip_stage.proofs.Addresses.{limit_fits}
 use borrow.Author.Tests.{le-ltb, lt-ltb}
 use Rattle.chip_stage.specs.Stages.{receiving}
 use Rattle.chip_stage.specs.Writes.{raised}
@@ -9,11 +9,11 @@ use Rattle.chip_stage.proofs.write.raise.Goals as goal
 
 pub overflow_add-a-then-a-limit : goal.overflow_add-a-then-a-limit
 unfolding raised
-overflow_add-a-then-a-limit c = omega (arith, c.limit.ensures, limit-fits (c.args.last.0 + 1) c.args.space (omega arith))
+overflow_add-a-then-a-limit c = omega (arith, c.limit.ensures, limit_fits (c.args.last.0 + 1) c.args.space (omega arith))
 
 pub overflow_add-a-then-a-limit-2 : goal.overflow_add-a-then-a-limit-2
 unfolding raised
-overflow_add-a-then-a-limit-2 c = omega (arith, c.limit.ensures, limit-fits (c.args.last.0 + 1) c.args.space (omega arith))
+overflow_add-a-then-a-limit-2 c = omega (arith, c.limit.ensures, limit_fits (c.args.last.0 + 1) c.args.space (omega arith))
 
 pub returns-then-a-limit : goal.returns-then-a-limit
 unfolding raised

@@ -4,7 +4,7 @@ use native.Mathlib.Omega.{arith}
 use lib.ListN.{length, drop}
 use borrow.Author.Tests.{lt-ltb, le-ltb}
 use Rattle.master_runs.specs.Calls.{are_replies}
-use Rattle.master_runs.proofs.Replies.{replies-next, replies-not, replies-end}
+use Rattle.master_runs.proofs.Replies.{replies_next, replies_not, replies_end}
 use Rattle.master_runs.proofs.calls.are_replies.Given as goal
 
 abbrev pub invariant-loop-i : goal.invariant-loop-i

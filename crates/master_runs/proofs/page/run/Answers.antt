@@ -6,13 +6,13 @@ use Rattle.base_types.specs.Outcome.{judged_outcome}
 use Rattle.master_page.specs.PageRead.{page_in_range}
 use Rattle.master_runs.specs.Calls.{are_replies}
 use Rattle.master_runs.specs.Page.{page_fed_judged, page_fed_outcome, page_fed, page_fed_events}
-use Rattle.master_runs.proofs.Judged.{room-beside}
+use Rattle.master_runs.proofs.Judged.{room_beside}
 use Rattle.master_runs.proofs.page.run.Goals as goal
 
 pub feed-requires : goal.feed-requires
 unfolding page_fed_judged page_fed_outcome page_fed page_fed_events
 feed-requires c = let a = c.args in
-    room-beside (page_in_range 64 a.start && are_replies a.replies.now) a.replies.now a.events.now (eqb (length a.buffer.now) 32) (sym c.judge.ensures ∙ ap judged_outcome c.in-Accepted.is)
+    room_beside (page_in_range 64 a.start && are_replies a.replies.now) a.replies.now a.events.now (eqb (length a.buffer.now) 32) (sym c.judge.ensures ∙ ap judged_outcome c.in-Accepted.is)
 
 pub returns-in-Refused : goal.returns-in-Refused
 unfolding page_fed_judged page_fed_outcome page_fed page_fed_events

@@ -1,4 +1,4 @@
-use Rattle.plug_chip_packing.proofs.Chip.{chip-judged, chip-held}
+use Rattle.plug_chip_packing.proofs.Chip.{chip_judged_lem, chip_held}
 use Rattle.plug_chip_packing.specs.Chip.{chip_state_of, is_chip_state, chip_judged}
 use Rattle.plug_fields.specs.Fields.{is_copy}
 use mathlib.Core.Path.{◌∙◌}
@@ -15,4 +15,4 @@ returns c = let b = c.args.bytes.now in
     let len = c.if-bytes-ne24.false in
     let all = c.both.ensures in
     let zeros = c.zeros.ensures in
-    let own = c.stage_own-own.ensures in record { judged = c.judge.ensures ∙ simp (all, zeros, own, chip-judged b len); state = c.state_at.ensures ∙ simp (chip-held b len) }
+    let own = c.stage_own-own.ensures in record { judged = c.judge.ensures ∙ simp (all, zeros, own, chip_judged_lem b len); state = c.state_at.ensures ∙ simp (chip_held b len) }

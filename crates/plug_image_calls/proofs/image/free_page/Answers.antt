@@ -5,7 +5,7 @@ use Rattle.base_types.specs.declared.address.Page.{Page}
 use Rattle.chip_images.specs.Free.{free_answer}
 use Rattle.plug_answers.specs.Answers.{code_in, answered}
 use Rattle.plug_image_calls.specs.Image.{found_values, free_values}
-use Rattle.plug_image_calls.proofs.Pages.{free-same}
+use Rattle.plug_image_calls.proofs.Pages.{free_same}
 use Rattle.plug_image_calls.proofs.image.free_page.Goals as goal
 
 pub returns-then-not-is_image : goal.returns-then-not-is_image
@@ -22,4 +22,4 @@ unfolding answered free_values
 returns c = let a = c.args in
     let sized = sym c.is_image.ensures ∙ c.if-not-is_image.false in
     let some = sym c.is_answer.ensures ∙ c.if-not-is_answer.false in
-    let told = c.lowest.ensures ∙ ap (free_answer 64 a.image.now) c.page.ensures ∙ free-same a.image.now a.other in record { code = simp (sized, some) (c.tell_found.ensures.code ∙ ap (λ (t : Outcome Page). code_in (found_values t)) told); answer = simp (sized, some) (c.tell_found.ensures.answer ∙ ap (λ (t : Outcome Page). answered (found_values t) a.answer.now) told) }
+    let told = c.lowest.ensures ∙ ap (free_answer 64 a.image.now) c.page.ensures ∙ free_same a.image.now a.other in record { code = simp (sized, some) (c.tell_found.ensures.code ∙ ap (λ (t : Outcome Page). code_in (found_values t)) told); answer = simp (sized, some) (c.tell_found.ensures.answer ∙ ap (λ (t : Outcome Page). answered (found_values t) a.answer.now) told) }

@@ -5,7 +5,7 @@ use lib.Signed.{lt_z}
 use mir.Syntax.{w32, w64}
 use mir.Val.{SFits, to_z, of_z}
 use mir.ValLaws.{to_z-of_z}
-use Rattle.base_tenths.proofs.Integers.{lt_not_le, not-lt-le}
+use Rattle.base_tenths.proofs.Integers.{lt_not_le, not_lt_le}
 use Rattle.plug_lookup.specs.Header.{lower_edge, covers}
 use Rattle.plug_lookup.proofs.header.does_cover.Goals as goal
 
@@ -36,4 +36,4 @@ returns c = let a = c.args in
     let upper = to_z-of_z w64 c.lower_edge-2.result (record { sfits = c.lower_edge-2.type_inv }) ∙ c.lower_edge-2.ensures in
     let latitude = latitude_is a.latitude c.ranges.latitude in
     ap₂ lt_z latitude upper
-    ∙ simp (not-lt-le a.latitude (lower_edge a.header.now a.i) (sym (ap₂ lt_z latitude edge) ∙ c.if-lower_edge-latitude.false))
+    ∙ simp (not_lt_le a.latitude (lower_edge a.header.now a.i) (sym (ap₂ lt_z latitude edge) ∙ c.if-lower_edge-latitude.false))

@@ -6,7 +6,7 @@ use mir.Syntax.{w32, w64}
 use mir.Val.{SFits, to_z, of_z}
 use mir.ValLaws.{to_z_pos, to_z-of_z}
 use Rattle.plug_lookup.specs.Header.{lower_edge}
-use Rattle.plug_lookup.proofs.Edges.{product-below, sum_below}
+use Rattle.plug_lookup.proofs.Edges.{product_below, sum_below}
 use Rattle.plug_lookup.proofs.header.lower_edge.Goals as goal
 
 -- a number of thirty-two bits, widened to sixty-four
@@ -21,24 +21,24 @@ above_is : (k : ℕ) → k < 0x1000000000000 → to_z w64 k ≡ pos k
 above_is k h = to_z_pos w64 k (omega arith)
 
 pub overflow_mul-above : goal.overflow_mul-above
-overflow_mul-above c = record { fits = omega (arith, product-below _ _ c.ranges.i.fits c.height.type_inv) }
+overflow_mul-above c = record { fits = omega (arith, product_below _ _ c.ranges.i.fits c.height.type_inv) }
 
 pub overflow_cast-result : goal.overflow_cast-result
 overflow_cast-result c = widened_fits c.edge.result (record { sfits = c.edge.type_inv })
 
 pub overflow_cast-result-2 : goal.overflow_cast-result-2
-overflow_cast-result-2 c = record { sfits = omega (arith, product-below _ _ c.ranges.i.fits c.height.type_inv) }
+overflow_cast-result-2 c = record { sfits = omega (arith, product_below _ _ c.ranges.i.fits c.height.type_inv) }
 
 pub overflow_add-result : goal.overflow_add-result
 overflow_add-result c =
-    let below = product-below _ _ c.ranges.i.fits c.height.type_inv in
+    let below = product_below _ _ c.ranges.i.fits c.height.type_inv in
     rw (edge_is c.edge.result (record { sfits = c.edge.type_inv }), above_is _ below)
     (record { sfits = omega (arith, sum_below c.edge.result _ c.edge.type_inv below) })
 
 pub returns : goal.returns
 unfolding lower_edge
 returns c =
-    let below = product-below _ _ c.ranges.i.fits c.height.type_inv in
+    let below = product_below _ _ c.ranges.i.fits c.height.type_inv in
     to_z-of_z w64 _ (overflow_add-result c)
     ∙ ap₂ ◌+ℤ◌ (edge_is c.edge.result (record { sfits = c.edge.type_inv }) ∙ c.edge.ensures)
     (above_is _ below ∙ ap (λ h. pos (c.args.i * h)) c.height.ensures)

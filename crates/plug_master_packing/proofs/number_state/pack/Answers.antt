@@ -1,4 +1,4 @@
-use Rattle.plug_master_packing.proofs.Number.{number-packing}
+use Rattle.plug_master_packing.proofs.Number.{number_packing}
 use Rattle.plug_master_packing.specs.Number.{number_bytes, is_number_state, number_packed, number_buffer}
 use lib.ListN.{length}
 use mathlib.Core.Path.{◌≡◌}
@@ -10,4 +10,4 @@ unfolding number_packed number_buffer number_bytes is_number_state
 returns c = let put = c.put in
     let f = c.front_of in
     let state = c.args.state in
-    let len : length state.bytes ≡ 8 = search rules in record { answer = rw len at c.put.ensures.answer; bytes = rw (len, c.front_of.ensures) at c.put.ensures.bytes; back = number-packing.state-back state len; kept = number-packing.state-kept state len }
+    let len : length state.bytes ≡ 8 = search rules in record { answer = rw len at c.put.ensures.answer; bytes = rw (len, c.front_of.ensures) at c.put.ensures.bytes; back = number_packing.state_back state len; kept = number_packing.state_kept state len }

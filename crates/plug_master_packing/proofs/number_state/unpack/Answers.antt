@@ -1,4 +1,4 @@
-use Rattle.plug_master_packing.proofs.Number.{number-judged, number-held}
+use Rattle.plug_master_packing.proofs.Number.{number_judged_lem, number_held}
 use Rattle.plug_master_packing.specs.Number.{number_read_of, is_number_state, number_judged}
 use Rattle.plug_fields.specs.Fields.{is_copy}
 use mathlib.Core.Path.{◌∙◌}
@@ -15,4 +15,4 @@ returns c = let b = c.args.bytes.now in
     let len = c.if-bytes-ne24.false in
     let all = c.both.ensures in
     let zeros = c.zeros.ensures in
-    let own = c.phase_own-own.ensures in record { judged = c.judge.ensures ∙ simp (all, zeros, own, number-judged b len); state = c.state_at.ensures ∙ simp (number-held b len) }
+    let own = c.phase_own-own.ensures in record { judged = c.judge.ensures ∙ simp (all, zeros, own, number_judged_lem b len); state = c.state_at.ensures ∙ simp (number_held b len) }

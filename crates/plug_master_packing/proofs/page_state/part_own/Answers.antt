@@ -1,4 +1,4 @@
-use Rattle.plug_master_packing.proofs.Page.{part-own}
+use Rattle.plug_master_packing.proofs.Page.{part_own_lem}
 use Rattle.plug_fields.proofs.Laws.{same_tag}
 use mathlib.Core.Path.{refl}
 use Rattle.plug_master_packing.specs.Page.{part_of, part_bytes}
@@ -21,4 +21,4 @@ pub returns-in_default : goal.returns-in_default
 unfolding part_own part_of part_bytes
 returns-in_default c = let b = c.args.b.now in
     rw (c.both.ensures, c.zeros-in_default.ensures)
-    (rw (part-own b _ refl c.in_default.in_default-own.rest.0.1 c.in_default.in_default-own.rest.1))
+    (rw (part_own_lem b _ refl c.in_default.in_default-own.rest.0.1 c.in_default.in_default-own.rest.1))

@@ -1,4 +1,4 @@
-use Rattle.plug_master_packing.proofs.Page.{page-judged, page-held}
+use Rattle.plug_master_packing.proofs.Page.{page_judged_lem, page_held_lem}
 use Rattle.plug_master_packing.specs.Page.{page_read_of, is_page_state, page_judged}
 use Rattle.plug_fields.specs.Fields.{is_copy}
 use mathlib.Core.Path.{◌∙◌}
@@ -15,4 +15,4 @@ returns c = let b = c.args.bytes.now in
     let len = c.if-bytes-ne48.false in
     let all = c.both.ensures in
     let zeros = c.zeros.ensures in
-    let own = c.phase_own-own.ensures in record { judged = c.judge.ensures ∙ simp (all, zeros, own, page-judged b len); state = c.state_at.ensures ∙ simp (page-held b len) }
+    let own = c.phase_own-own.ensures in record { judged = c.judge.ensures ∙ simp (all, zeros, own, page_judged_lem b len); state = c.state_at.ensures ∙ simp (page_held_lem b len) }

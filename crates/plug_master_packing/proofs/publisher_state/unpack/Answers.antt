@@ -1,4 +1,4 @@
-use Rattle.plug_master_packing.proofs.Publisher.{publisher-judged, publisher-held}
+use Rattle.plug_master_packing.proofs.Publisher.{publisher_judged_lem, publisher_held}
 use Rattle.plug_master_packing.specs.Publisher.{publisher_of, is_publisher_state, publisher_judged}
 use Rattle.plug_fields.specs.Fields.{is_copy}
 use mathlib.Core.Path.{◌∙◌}
@@ -16,4 +16,4 @@ returns c = let b = c.args.bytes.now in
     let all = c.both.ensures in
     let zeros = c.zeros.ensures in
     let mode = c.both-own.ensures in
-    let own = c.stage_own.ensures in record { judged = c.judge.ensures ∙ simp (all, zeros, mode, own, publisher-judged b len); state = c.state_at.ensures ∙ simp (publisher-held b len) }
+    let own = c.stage_own.ensures in record { judged = c.judge.ensures ∙ simp (all, zeros, mode, own, publisher_judged_lem b len); state = c.state_at.ensures ∙ simp (publisher_held b len) }

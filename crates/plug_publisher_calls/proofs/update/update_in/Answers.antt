@@ -8,7 +8,7 @@ use Rattle.master_publisher.specs.Start.{choice_state}
 use Rattle.master_update.specs.Update.{update_answer, choice_answer, updated_image, run_for, opened}
 use Rattle.plug_answers.specs.Answers.{code_in, answered, eight_of}
 use Rattle.plug_publisher_calls.specs.Update.{update_image, update_judged, update_values}
-use Rattle.plug_publisher_calls.proofs.Pages.{choice-same}
+use Rattle.plug_publisher_calls.proofs.Pages.{choice_same}
 use Rattle.plug_publisher_calls.proofs.update.update_in.Goals as goal
 
 pub returns-then-not-is_image : goal.returns-then-not-is_image
@@ -32,7 +32,7 @@ returns c = let a = c.args in
     let sized = sym c.is_image.ensures ∙ c.if-not-is_image.false in
     let some = sym c.is_answer.ensures ∙ c.if-not-is_answer.false in
     let eight = sym c.is_number.ensures ∙ c.if-not-is_number.false in
-    let choice = choice-same a.image.now a.kind.placement a.new.now a.page in
+    let choice = choice_same a.image.now a.kind.placement a.new.now a.page in
     let told = c.update.ensures.answer ∙ ap (λ (q : ℕ). update_answer 64 a.kind a.image.now a.new.now q) c.page.ensures ∙ ap choice_answer choice in record {
       code = simp (sized, some, eight) (c.tell_update.ensures.code ∙ ap (λ (t : Outcome (List ℕ)). code_in t) told);
       answer = simp (sized, some, eight) (c.tell_update.ensures.answer ∙ ap (λ (t : Outcome (List ℕ)). answered t a.answer.now) told);

@@ -6,14 +6,14 @@ use Rattle.master_runs.specs.Number.{number_fed_judged, number_fed_outcome, numb
 use Rattle.plug_answers.specs.Answers.{next_answered}
 use Rattle.plug_answers.specs.Calls.{answer_judged}
 use Rattle.plug_reader_calls.specs.Number.{number_run_outcome, number_run_events, number_run_told}
-use Rattle.plug_answers.proofs.Judged.{first-accepted}
-use Rattle.plug_reader_calls.proofs.Judged.{number-judged}
+use Rattle.plug_answers.proofs.Judged.{first_accepted}
+use Rattle.plug_reader_calls.proofs.Judged.{number_judged_lem}
 use Rattle.plug_reader_calls.proofs.number.run.Goals as goal
 
 pub returns-in-Refused : goal.returns-in-Refused
 unfolding number_run_outcome number_run_events number_run_told number_fed_outcome number_fed_events next_answered
 returns-in-Refused c = let a = c.args in
-    let whole = number-judged a.replies.now a.events.now a.answer.now in
+    let whole = number_judged_lem a.replies.now a.events.now a.answer.now in
     let fed = c.judge.ensures ∙ ap (λ (s : NumberRead). number_fed_judged s a.replies.now a.events.now) c.start.ensures in
     let judged = sym (c.judge_answer-judged.ensures ∙ ap (λ (j : Outcome Done). following j (answer_judged a.answer.now (accepted done))) fed ∙ whole)
     ∙ ap judged_outcome c.in-Refused.is in record { code = simp judged c.refuse.ensures.code; events = simp judged; answer = simp judged c.refuse.ensures.answer }
@@ -21,9 +21,9 @@ returns-in-Refused c = let a = c.args in
 pub returns-in-Accepted : goal.returns-in-Accepted
 unfolding number_run_outcome number_run_events number_run_told number_fed_outcome number_fed_events next_answered
 returns-in-Accepted c = let a = c.args in
-    let whole = number-judged a.replies.now a.events.now a.answer.now in
+    let whole = number_judged_lem a.replies.now a.events.now a.answer.now in
     let fed = c.judge.ensures ∙ ap (λ (s : NumberRead). number_fed_judged s a.replies.now a.events.now) c.start.ensures in
     let judged = sym (c.judge_answer-judged.ensures ∙ ap (λ (j : Outcome Done). following j (answer_judged a.answer.now (accepted done))) fed ∙ whole)
     ∙ ap judged_outcome c.in-Accepted.is in
-    let all = first-accepted (number_fed_judged number_begun a.replies.now a.events.now) (answer_judged
+    let all = first_accepted (number_fed_judged number_begun a.replies.now a.events.now) (answer_judged
     a.answer.now (accepted done)) (whole ∙ judged) in record { code = c.run_told.ensures.code ∙ simp (judged, all); events = c.run_told.ensures.events ∙ simp (judged, all); answer = c.run_told.ensures.answer ∙ simp (judged, all) }

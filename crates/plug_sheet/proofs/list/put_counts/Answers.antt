@@ -1,5 +1,5 @@
 use Rattle.plug_sheet.proofs.Puts.{put_then, put_same}
-use Rattle.plug_sheet.proofs.Texts.{decimal-length}
+use Rattle.plug_sheet.proofs.Texts.{decimal_length}
 use Rattle.plug_sheet.specs.Text.{decimal}
 use Rattle.plug_sheet.specs.List.{counts_line}
 use mathlib.Core.Path.{ap}
@@ -7,13 +7,13 @@ use native.Mathlib.Omega.{arith}
 use Rattle.plug_sheet.proofs.list.put_counts.Goals as goal
 
 pub put-c-requires : goal.put-c-requires
-put-c-requires c = omega (arith, decimal-length c.redirected_count.result)
+put-c-requires c = omega (arith, decimal_length c.redirected_count.result)
 
 pub put_decimal-d-requires : goal.put_decimal-d-requires
-put_decimal-d-requires c = omega (arith, decimal-length c.redirected_count.result)
+put_decimal-d-requires c = omega (arith, decimal_length c.redirected_count.result)
 
 pub put-requires : goal.put-requires
-put-requires c = omega (arith, decimal-length c.redirected_count.result, decimal-length c.free_count.result)
+put-requires c = omega (arith, decimal_length c.redirected_count.result, decimal_length c.free_count.result)
 
 pub returns : goal.returns
 unfolding counts_line

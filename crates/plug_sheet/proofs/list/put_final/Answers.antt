@@ -1,14 +1,14 @@
 use Rattle.plug_sheet.proofs.Puts.{put_then}
-use Rattle.plug_sheet.proofs.Texts.{decimal-length}
+use Rattle.plug_sheet.proofs.Texts.{decimal_length}
 use Rattle.plug_sheet.specs.List.{final_text}
 use native.Mathlib.Omega.{arith}
 use Rattle.plug_sheet.proofs.list.put_final.Goals as goal
 
 pub put-c-requires : goal.put-c-requires
-put-c-requires c = omega (arith, decimal-length c.args.q.0)
+put-c-requires c = omega (arith, decimal_length c.args.q.0)
 
 pub put_decimal-requires : goal.put_decimal-requires
-put_decimal-requires c = omega (arith, decimal-length c.args.q.0)
+put_decimal-requires c = omega (arith, decimal_length c.args.q.0)
 
 pub returns : goal.returns
 unfolding final_text

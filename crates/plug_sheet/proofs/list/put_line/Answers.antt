@@ -1,14 +1,14 @@
 use Rattle.plug_sheet.proofs.Puts.{put_then}
-use Rattle.plug_sheet.proofs.Texts.{decimal-length, verdict-length}
+use Rattle.plug_sheet.proofs.Texts.{decimal_length, verdict_length}
 use Rattle.plug_sheet.specs.List.{verdict_line}
 use native.Mathlib.Omega.{arith}
 use Rattle.plug_sheet.proofs.list.put_line.Goals as goal
 
 pub put_verdict-b-requires : goal.put_verdict-b-requires
-put_verdict-b-requires c = omega (arith, decimal-length c.args.p.0)
+put_verdict-b-requires c = omega (arith, decimal_length c.args.p.0)
 
 pub put-requires : goal.put-requires
-put-requires c = omega (arith, decimal-length c.args.p.0, verdict-length c.args.v)
+put-requires c = omega (arith, decimal_length c.args.p.0, verdict_length c.args.v)
 
 pub returns : goal.returns
 unfolding verdict_line

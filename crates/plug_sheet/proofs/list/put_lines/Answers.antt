@@ -1,5 +1,5 @@
-use Rattle.plug_sheet.proofs.Puts.{PutsLeft, left-next, left_over}
-use Rattle.plug_sheet.proofs.Texts.{page-line-length, lines_next, lines-over}
+use Rattle.plug_sheet.proofs.Puts.{PutsLeft, left_next, left_over}
+use Rattle.plug_sheet.proofs.Texts.{page_line_length, lines_next, lines_over}
 use Prim.Native.Nat.{ℕ}
 use mathlib.Core.List.{List}
 use mathlib.Core.Path.{refl, ap, ◌∙◌, subst}
@@ -29,14 +29,14 @@ loop-p-preserved c =
     let n = page_count c.args.last in
     let img = c.args.image.now in
     let l = c.loop-p in
-    let long = page-line-length n img l.p in
+    let long = page_line_length n img l.p in
     let lines = lines_next n img l.p (omega arith) in
     let left = subst (λ (rest : List ℕ). PutsLeft l.next rest l.text c.args.at (page_lines n img n 0) c.args.text.now) lines l.invariant.4 in (
       omega arith,
       l.invariant.1,
       c.put_page-next.auto.text ∙ l.invariant.2,
       omega arith,
-      left-next _ _ _ _ _ _ _ _ _ left (c.put_page-next.ensures.next, c.put_page-next.ensures.text),
+      left_next _ _ _ _ _ _ _ _ _ left (c.put_page-next.ensures.next, c.put_page-next.ensures.text),
     )
 
 pub returns : goal.returns
@@ -44,6 +44,6 @@ returns c =
     let n = page_count c.args.last in
     let img = c.args.image.now in
     let l = c.loop-p in
-    let over = lines-over n img l.p (omega arith) in
+    let over = lines_over n img l.p (omega arith) in
     let proved = left_over _ _ _ _ _ (subst (λ (rest : List ℕ). PutsLeft l.next rest l.text c.args.at (page_lines n img n 0) c.args.text.now) over l.invariant.4) in
     record { next = proved.0; text = proved.1 }

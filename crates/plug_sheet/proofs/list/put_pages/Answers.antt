@@ -1,5 +1,5 @@
 use Rattle.plug_sheet.proofs.Puts.{put_then, put_same}
-use Rattle.plug_sheet.proofs.Texts.{decimal-length}
+use Rattle.plug_sheet.proofs.Texts.{decimal_length}
 use Rattle.plug_sheet.specs.Text.{decimal}
 use Rattle.plug_sheet.specs.List.{pages_line}
 use mathlib.Core.Path.{ap}
@@ -7,7 +7,7 @@ use native.Mathlib.Omega.{arith}
 use Rattle.plug_sheet.proofs.list.put_pages.Goals as goal
 
 pub put-requires : goal.put-requires
-put-requires c = omega (arith, decimal-length c.page_count.result)
+put-requires c = omega (arith, decimal_length c.page_count.result)
 
 pub returns : goal.returns
 unfolding pages_line

@@ -1,11 +1,11 @@
 use Rattle.plug_sheet.proofs.Puts.{put_then}
-use Rattle.plug_sheet.proofs.Texts.{decimal-length}
+use Rattle.plug_sheet.proofs.Texts.{decimal_length}
 use Rattle.plug_sheet.specs.List.{refused_line}
 use native.Mathlib.Omega.{arith}
 use Rattle.plug_sheet.proofs.list.put_refused.Goals as goal
 
 pub put-requires : goal.put-requires
-put-requires c = omega (arith, decimal-length c.args.number)
+put-requires c = omega (arith, decimal_length c.args.number)
 
 pub returns : goal.returns
 unfolding refused_line

@@ -1,6 +1,6 @@
 use Rattle.plug_sheet.proofs.Sheets.{gap_ok}
 use Rattle.base_types.specs.Scan.{every}
-use Rattle.base_types.proofs.Scan.{every-fails, every-goes-on, every-over}
+use Rattle.base_types.proofs.Scan.{every_fails, every_goes_on, every_over}
 use Rattle.plug_sheet.specs.Stored.{gaps_blank}
 use Rattle.chip_memory.specs.Layout.{page_count, status_size}
 use mathlib.Core.Path.{sym, ap, ◌∙◌}
@@ -16,7 +16,7 @@ loop-a-init c = let n = page_count c.args.last in
 pub returns-then-not-gap_blank : goal.returns-then-not-gap_blank
 returns-then-not-gap_blank c = let n = page_count c.args.last in
     let e = sym c.gap_blank.ensures ∙ c.if-not-gap_blank.true in
-    sym (c.loop-a.invariant.2 ∙ every-fails (gap_ok n c.args.image.now) (status_size n) c.loop-a.a (omega arith) e)
+    sym (c.loop-a.invariant.2 ∙ every_fails (gap_ok n c.args.image.now) (status_size n) c.loop-a.a (omega arith) e)
 
 pub loop-a-smaller : goal.loop-a-smaller
 loop-a-smaller c = omega arith
@@ -26,9 +26,9 @@ loop-a-preserved c = let n = page_count c.args.last in
     let e = sym c.gap_blank.ensures ∙ c.if-not-gap_blank.false in (
       omega arith,
       c.loop-a.invariant.1,
-      c.loop-a.invariant.2 ∙ every-goes-on (gap_ok n c.args.image.now) (status_size n) c.loop-a.a (omega arith) e,
+      c.loop-a.invariant.2 ∙ every_goes_on (gap_ok n c.args.image.now) (status_size n) c.loop-a.a (omega arith) e,
     )
 
 pub returns : goal.returns
 returns c = let n = page_count c.args.last in
-    sym (c.loop-a.invariant.2 ∙ every-over (gap_ok n c.args.image.now) (status_size n) c.loop-a.a (omega arith))
+    sym (c.loop-a.invariant.2 ∙ every_over (gap_ok n c.args.image.now) (status_size n) c.loop-a.a (omega arith))

@@ -1,5 +1,5 @@
 use Rattle.plug_sheet.specs.Stored.{write_answer, write_buffer}
-use Rattle.chip_memory.proofs.Sizes.{image-length}
+use Rattle.chip_memory.proofs.Sizes.{image_length}
 use mathlib.Core.Path.{sym, ◌∙◌}
 use native.Mathlib.Omega.{arith}
 use borrow.Author.Tests.{eq-eqb, ne_eqb}
@@ -23,7 +23,7 @@ returns-then-not-gaps_blank c = let whole = sym c.is_image.ensures ∙ c.if-not-
 pub fill-requires : goal.fill-requires
 unfolding write_answer write_buffer
 fill-requires c = let whole = sym c.is_image.ensures ∙ c.if-not-is_image.false in
-    let long = image-length 64 c.args.image.now whole in (
+    let long = image_length 64 c.args.image.now whole in (
       c.well_formed.0.1.0.1,
       omega (
         arith,

@@ -4,16 +4,16 @@ use native.Mathlib.Omega.{arith}
 use lib.ListN.{length, drop, length-drop}
 use lib.Seq.{take_all}
 use Rattle.program_text.specs.Numeral.{natural_of, minus, integer_of}
-use Rattle.program_text.proofs.Numerals.{minus-some}
+use Rattle.program_text.proofs.Numerals.{minus_some}
 use Rattle.program_text.proofs.numeral.integer.Goals as goal
 
 pub slice_bounds-negative-count : goal.slice_bounds-negative-count
 unfolding integer_of
-slice_bounds-negative-count c = minus-some _ (sym c.is_negative.ensures ∙ c.if-is_negative.true)
+slice_bounds-negative-count c = minus_some _ (sym c.is_negative.ensures ∙ c.if-is_negative.true)
 
 pub slice_bounds-negative-start : goal.slice_bounds-negative-start
 unfolding integer_of
-slice_bounds-negative-start c = minus-some _ (sym c.is_negative.ensures ∙ c.if-is_negative.true)
+slice_bounds-negative-start c = minus_some _ (sym c.is_negative.ensures ∙ c.if-is_negative.true)
 
 pub returns-then-is_negative : goal.returns-then-is_negative
 unfolding integer_of
