@@ -151,7 +151,7 @@ def lemma_here(text, path, lemma, homes):
 def respelled(path, text):
     if path.endswith(".antt"):
         for lemma, homes in LEMMAS.items():
-            if lemma_here(text, path, lemma, homes):
+            if lemma + "_lem" not in text and lemma_here(text, path, lemma, homes):
                 text = re.sub(rf"(?<![\w.'-]){lemma}(?![\w.'-])", lemma + "_lem", text)
     return TOKEN.sub(lambda m: snake(m.group()), text)
 

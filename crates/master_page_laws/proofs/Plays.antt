@@ -32,7 +32,7 @@ use Rattle.master_page.specs.declared.PageRead.{PageRead}
 use Rattle.master_page.specs.Page.{page_stop}
 use Rattle.master_page_laws.specs.Script.{read_command, crc_word}
 use Rattle.master_page.specs.Code.PageSteps.{command_byte, command_bit, word_shift_in, page_with, page_presence, after_extended_read, hopped, page_named, byte_followed}
-use Rattle.master_page.specs.Code.PageSteps.{redirection_judged, next_data, data_judged, part_in_lem, page_bit_in, page_closed, page_next_at, page_next, page_phase_answer, finishes}
+use Rattle.master_page.specs.Code.PageSteps.{redirection_judged, next_data, data_judged, part_in, page_bit_in, page_closed, page_next_at, page_next, page_phase_answer, finishes}
 use Rattle.master_page.specs.PageRead.{page_shown, page_begun, refused_start, start_state, read_answer, read_state, read_buffer}
 use Rattle.master_page_laws.specs.Script.{visit_script, final_script, by_byte, walk_script, page_script}
 use Rattle.master_page.specs.Held.{PageHeld, page_called, page_started}
@@ -87,8 +87,8 @@ module _ (n : ℕ) where
   PageFollows s script = RanFollows (bare s) script
 
   -- what a part leads to does not depend on the phase
-  part_with : (phase : Phase) (s : PageRead) (part : Part) (v : ℕ) → part_in_lem n (page_with s phase) part v ≡ part_in_lem n s part v
-  unfolding part_in_lem redirection_judged byte_followed page_named hopped data_judged
+  part_with : (phase : Phase) (s : PageRead) (part : Part) (v : ℕ) → part_in n (page_with s phase) part v ≡ part_in n s part v
+  unfolding part_in redirection_judged byte_followed page_named hopped data_judged
   part_with phase s Redirection v = refl
   part_with phase s (RedirectionCrc b) v = refl
   part_with phase s (Data k) v = refl
@@ -128,16 +128,16 @@ module _ (n : ℕ) where
     unfolding page_next_at page_bit_in
     bit_next part left v r = let e : suc (suc left) - 1 ≡ suc left = omega arith in simp (lt-ltb 1 (suc (suc left)) (omega arith), e)
 
-    bit_last : (part : Part) (v : ℕ) (r : Bool) → page_next n (here (Receive part 1 v)) r ≡ part_in_lem n (here Presence) part (word_shift_in v r)
+    bit_last : (part : Part) (v : ℕ) (r : Bool) → page_next n (here (Receive part 1 v)) r ≡ part_in n (here Presence) part (word_shift_in v r)
     unfolding page_next_at page_bit_in
     bit_last part v r = part_with (Receive part 1 v) (here Presence) part (word_shift_in v r)
 
     part_in_lem : (part : Part) (left : ℕ) (on : ℕ → Script)
-        → ((bs : List Bool) → length bs ≡ suc left → PageFollows (part_in_lem n (here Presence) part (gathered 32768 0 bs)) (on (value_of bs)))
+        → ((bs : List Bool) → length bs ≡ suc left → PageFollows (part_in n (here Presence) part (gathered 32768 0 bs)) (on (value_of bs)))
         → PageFollows (here (Receive part (suc left) 0)) (read_bits (suc left) on)
     unfolding page_phase_answer
     part_in_lem part left on f =
-        receiving 32768 (λ k v. bare (here (Receive part k v))) (λ v. bare (part_in_lem n (here Presence) part v)) (λ k v. refl) (λ k v. refl)
+        receiving 32768 (λ k v. bare (here (Receive part k v))) (λ v. bare (part_in n (here Presence) part v)) (λ k v. refl) (λ k v. refl)
         (λ k v r. ap bare (bit_next part k v r)) (λ v r. ap bare (bit_last part v r)) left 0 on f
 
     -- the closing reset
@@ -146,7 +146,7 @@ module _ (n : ℕ) where
     closes = resetting refl refl (halted NoPresence) (giving refl refl (λ r. refl) refl refl (λ r. refl))
 
     data_crc_lem : PageFollows (here (Receive DataCrc 16 0)) (read_crc (crc_word bytes) (reset (gives (p ∷ hops ∷ []) bytes)))
-    unfolding part_in_lem data_judged
+    unfolding part_in data_judged
     data_crc_lem = part_in_lem DataCrc 15 _ (λ bs e. rw (word_held bs e) (checking bare (eqb (value_of bs) (crc_word bytes)) (λ _. closes) (λ _. halted Crc16)))
 
   module _ (p hops : ℕ) where
@@ -156,12 +156,12 @@ module _ (n : ℕ) where
     awaiting k bytes = bare (standing (Receive (Data k) 8 0) p hops bytes)
 
     data_more : (k : ℕ) (bytes : List ℕ) (on : ℕ → Script) → k < 31 → ((v : ℕ) → RanFollows (awaiting (k + 1) (set bytes k v)) (on v)) → RanFollows (awaiting k bytes) (read_byte on)
-    unfolding part_in_lem next_data
+    unfolding part_in next_data
     data_more k bytes on l f = part_in_lem p hops bytes (Data k) 7 on (λ bs e. simp (lt-ltb k 31 l, high_held bs e) (f (value_of bs)))
 
     data_last : (bytes : List ℕ) (on : ℕ → Script) → ((v : ℕ) → PageFollows (standing (Receive DataCrc 16 0) p hops (set bytes 31 v)) (on v))
         → RanFollows (awaiting 31 bytes) (read_byte on)
-    unfolding part_in_lem next_data
+    unfolding part_in next_data
     data_last bytes on f = part_in_lem p hops bytes (Data 31) 7 on (λ bs e. simp (high_held bs e) (f (value_of bs)))
 
     finals : (bytes : List ℕ) → length bytes ≡ 32 → PageFollows (standing (Receive (Data 0) 8 0) p hops bytes) (final_script p hops)
@@ -191,13 +191,13 @@ module _ (n : ℕ) where
           (checking bare (ltb (255 - byte) n) (λ t. goes (255 - byte) (ltb-true (255 - byte) n t)) (λ _. halted p hops bytes (Outside (255 - byte))))
 
       crc_in : (byte : ℕ) → PageFollows (standing (Receive (RedirectionCrc (record { 0 = byte })) 16 0) p hops bytes) (read_crc (crc_at byte) (by_byte n p hops on byte))
-      unfolding part_in_lem redirection_judged
+      unfolding part_in redirection_judged
       crc_in byte =
           part_in_lem p hops bytes (RedirectionCrc (record { 0 = byte })) 15 _
           (λ bs e. rw (word_held bs e) (checking bare (eqb (value_of bs) (crc_at byte)) (λ _. follows_byte byte) (λ _. halted p hops bytes Crc16)))
 
       visits : PageFollows (standing Presence p hops bytes) (visit_script p (by_byte n p hops on))
-      unfolding visit_script page_next_at page_presence page_phase_answer part_in_lem
+      unfolding visit_script page_next_at page_presence page_phase_answer part_in
       visits =
           resetting refl refl (halted p hops bytes NoPresence)
           (commands p hops bytes _ (part_in_lem p hops bytes Redirection 7 _ (λ bs e. rw (high_held bs e) (crc_in (value_of bs)))))

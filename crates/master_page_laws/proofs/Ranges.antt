@@ -25,7 +25,7 @@ use Rattle.master_page.specs.declared.PageRead.{PageRead}
 use Rattle.master_page.specs.Page.{page_stop}
 use Rattle.master_page_laws.specs.Script.{read_command, crc_word}
 use Rattle.master_page.specs.Code.PageSteps.{word_shift_in, page_with, page_stopped, page_presence, after_extended_read, hopped, page_named, byte_followed, redirection_judged}
-use Rattle.master_page.specs.Code.PageSteps.{next_data, data_judged, part_in_lem, page_bit_in, page_closed, page_next_at, page_next, page_phase_answer}
+use Rattle.master_page.specs.Code.PageSteps.{next_data, data_judged, part_in, page_bit_in, page_closed, page_next_at, page_next, page_phase_answer}
 use Rattle.master_page.specs.PageRead.{part_in_range, part_width, page_receive_in_range, page_stop_in_range, page_phase_in_range, page_in_range, page_begun, refused_start}
 use Rattle.master_page.specs.PageRead.{start_answer, start_state, read_outcome, page_shown, read_answer, read_state, read_buffer}
 use Rattle.master_page_laws.specs.Ranges.{PartListed, page_stops, PagePhaseListed, PageListed}
@@ -114,8 +114,8 @@ module _ (n : ℕ) where
         either (Within n size) (eqb b 255) _ _ (λ _. with_in _ refl)
         (λ _. either (Within n size) (is_page n (named_by b)) _ _ (λ t. hop_in (named_by b) (page_true n (named_by b) t)) (λ f. with_in _ (ap not f)))
 
-    part_in_lem : (part : Part) (v : ℕ) → Within n size (part_in_lem n s part v)
-    unfolding part_in_lem redirection_judged next_data data_judged page_phase_in_range page_receive_in_range page_stop_in_range
+    part_in_lem : (part : Part) (v : ℕ) → Within n size (part_in n s part v)
+    unfolding part_in redirection_judged next_data data_judged page_phase_in_range page_receive_in_range page_stop_in_range
     part_in_lem Redirection v = with_in _ refl
     part_in_lem (RedirectionCrc b) v =
         either (Within n size) (eqb v (crc_word (read_command s.page.0 ++ (b.0 ∷ [])))) _ _ (λ _. follow_in b.0) (λ _. with_in _ refl)

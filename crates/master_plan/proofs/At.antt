@@ -22,7 +22,7 @@ use Rattle.bus_events.specs.Slots.{slots}
 use Rattle.master_plan.specs.Kind.{selecting, head_count, crc_count, byte_count, write_count}
 use Rattle.master_plan.specs.Places.{bitmap_address, clearing, page_address, redirection_address, naming, address_of, head_of}
 use Rattle.master_plan.specs.Plan.{step, reset_step, pulse_step, freely, send_steps, read_steps, crc_steps, back_steps, byte_steps, bytes_steps, head_steps, write_steps, plan_of}
-use Rattle.master_plan.specs.Code.At.{send_at_lem, crc_at, back_at, byte_at, head_byte, head_at_lem, register_at, number_at, write_at, part_at}
+use Rattle.master_plan.specs.Code.At.{send_at, crc_at, back_at, byte_at, head_byte, head_at, register_at, number_at, write_at, part_at}
 use Rattle.master_plan.specs.declared.Part.{Part}
 use Rattle.master_plan.specs.declared.Part.TheVariants.{Bitmap, NewPage, Link, Closing}
 use Rattle.master_plan.specs.declared.Step.{Step}
@@ -72,14 +72,14 @@ free_length zero v = refl
 free_length (suc k) v = ap suc (free_length k (v / 2))
 
 -- bit i modulo 8 of byte i divided by 8
-send_at_lem : (bytes : List ℕ) (i : ℕ) → i < 8 * length bytes → send_at_lem (get_or bytes (i / 8) 0) i ≡ at (send_steps bytes) i
-unfolding send_at_lem send_steps bits_of_bytes
+send_at_lem : (bytes : List ℕ) (i : ℕ) → i < 8 * length bytes → send_at (get_or bytes (i / 8) 0) i ≡ at (send_steps bytes) i
+unfolding send_at send_steps bits_of_bytes
 send_at_lem [] i lt = let z : ⊥ = omega arith in absurd z
 send_at_lem (b ∷ bs) i lt =
     go (λ le. send_at_lem bs (i - 8) (omega arith)) (dec_lt i 8) ∙ ap (λ (l : List Step). at l i) (sym (freely_append (bits_of 8 b) (bits_of_bytes bs)))
   where
-    go : (8 ≤ i → send_at_lem (get_or bs ((i - 8) / 8) 0) (i - 8) ≡ at (freely (slots (bits_of_bytes bs))) (i - 8)) → Dec (i < 8)
-        → send_at_lem (get_or (b ∷ bs) (i / 8) 0) i ≡ at (freely (slots (bits_of 8 b)) ++ freely (slots (bits_of_bytes bs))) i
+    go : (8 ≤ i → send_at (get_or bs ((i - 8) / 8) 0) (i - 8) ≡ at (freely (slots (bits_of_bytes bs))) (i - 8)) → Dec (i < 8)
+        → send_at (get_or (b ∷ bs) (i / 8) 0) i ≡ at (freely (slots (bits_of 8 b)) ++ freely (slots (bits_of_bytes bs))) i
     go ih (yes y) =
         let q : i / 8 ≡ 0 = omega arith in
         let r : i % 8 ≡ i = omega arith in
@@ -173,8 +173,8 @@ bytes_at_lem mode (d ∷ ds) a crc old i lt =
 -- ---- a write, and the plan
 
 module _ (kind : UpdateKind) where
-  head_at_lem : (target : Target) (i : ℕ) → i < head_count kind → head_at_lem kind target i ≡ at (head_steps kind target) i
-  unfolding head_at_lem head_byte head_steps
+  head_at_lem : (target : Target) (i : ℕ) → i < head_count kind → head_at kind target i ≡ at (head_steps kind target) i
+  unfolding head_at head_byte head_steps
   head_at_lem target i lt =
       in_either (reset_step ∷ []) (send_steps (selecting kind.selection ++ head_of kind.mode target)) 1 i _ _ refl (one_at reset_step i)
       (λ le. send_at_lem (selecting kind.selection ++ head_of kind.mode target) (i - 1)
