@@ -1,17 +1,17 @@
-//! Links the proved library, which `rt staticlib plug_capi` writes.
+//! Links the proved library, which `rt lib` writes in crates/plug_capi.
 
 use std::path::PathBuf;
 use std::process::{exit, Command};
 
 fn main() {
     let here = PathBuf::from(std::env::var_os("CARGO_MANIFEST_DIR").expect("cargo sets this"));
-    let folder = here.join("../target/staticlib");
+    let folder = here.join("../crates/plug_capi/out");
     let library = folder.join("libplug_capi.a");
     println!("cargo:rerun-if-changed={}", library.display());
     if !library.is_file() {
         eprintln!();
-        eprintln!("The proved library target/staticlib/libplug_capi.a is missing.");
-        eprintln!("Build it with `rt staticlib plug_capi` at the top of the repository.");
+        eprintln!("The proved library crates/plug_capi/out/libplug_capi.a is missing.");
+        eprintln!("Build it with `rt lib` in crates/plug_capi.");
         eprintln!();
         exit(1);
     }

@@ -35,7 +35,7 @@ fn compile(compiler: &str, words: &[&str], source: &Path, program: &Path) {
         .arg(source)
         .arg("-I")
         .arg(top().join("include"))
-        .arg(top().join("target/staticlib/libplug_capi.a")));
+        .arg(top().join("crates/plug_capi/out/libplug_capi.a")));
 }
 
 /// The first block of a kind in a document.
