@@ -10,7 +10,6 @@ use master_reading::{End, Reading};
 use master_update::Updated;
 use plug_sheet::stored;
 use std::io;
-use std::io::Read;
 
 // The page that is asked for, and the page that is updated.
 const ASKED: u8 = 5;
@@ -242,12 +241,12 @@ fn show(rt: &impl Print, sheet: &[u8]) -> io::Result<()> {
     show_update(rt, sheet)
 }
 
-// One byte more than a sheet has is read, so that a longer input is refused.
 fn main(rt: HostRuntime) -> io::Result<()> {
-    let mut input = Vec::new(rt.alloc());
-    rt.stdin().take(2393).read_to_end(&mut input)?;
-    match stored::judge(&input) {
-        Judged::Refused(_) => program_listing::print(&rt, &input),
-        Judged::Accepted => show(&rt, &input),
+    let mut input = [0u8; 2393];
+    let size = program_listing::read(&mut rt.stdin(), &mut input)?;
+    let sheet = &input[..size];
+    match stored::judge(sheet) {
+        Judged::Refused(_) => program_listing::print(&rt, sheet),
+        Judged::Accepted => show(&rt, sheet),
     }
 }

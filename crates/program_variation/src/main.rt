@@ -7,7 +7,6 @@ use program_text::numeral;
 use program_text::numeral::{Signed, Unsigned};
 use std::env::{Env, FillError};
 use std::io;
-use std::io::Read;
 
 fn print_usage(rt: &impl Eprint) -> io::Result<()> {
     eprintln!(rt;
@@ -15,11 +14,13 @@ fn print_usage(rt: &impl Eprint) -> io::Result<()> {
     )
 }
 
-// One byte more than a sheet has is read, so that a longer input is refused.
 fn answer(rt: &HostRuntime, latitude: i32, column: u32) -> io::Result<()> {
-    let mut input = Vec::new(rt.alloc());
-    rt.stdin().take(2393).read_to_end(&mut input)?;
-    program_text::print_variation(rt, plug_sheet_lookup::variation(&input, latitude, column))
+    let mut input = [0u8; 2393];
+    let size = program_listing::read(&mut rt.stdin(), &mut input)?;
+    program_text::print_variation(
+        rt,
+        plug_sheet_lookup::variation(&input[..size], latitude, column),
+    )
 }
 
 // Whether there is such an argument; 0 is the program's name.
