@@ -10,12 +10,12 @@ use Rattle.base_types.specs.Refusal.{number_of}
 use Rattle.base_types.specs.declared.refusal.Refusal.{Refusal}
 use Rattle.base_types.specs.Outcome.{accepted, judge, unless_refused}
 use Rattle.chip_memory.specs.Page.{copied}
-use Rattle.chip_memory.proofs.Pages.{copied-length}
+use Rattle.chip_memory.proofs.Pages.{copied_length}
 use Rattle.plug_sheet.specs.declared.list.Listed.{Listed}
 use Rattle.plug_sheet.specs.declared.list.Listed.TheVariants.{Refused, Text}
 use Rattle.plug_sheet.specs.Stored.{is_sheet, image_part}
 use Rattle.plug_sheet.specs.List.{room_for, list_of, refused_line, list_outcome, list_answer, list_buffer, refusal_answer, refusal_buffer}
-use Rattle.plug_sheet.proofs.Texts.{decimal-length, list-laws}
+use Rattle.plug_sheet.proofs.Texts.{decimal_length, list_laws}
 use Rattle.program_listing.specs.Report.{report_of, report_buffer}
 
 -- so many bytes were written over a buffer, and they are this text
@@ -70,9 +70,9 @@ unfolding report_of refused_line
 report_fits n s = go (is_sheet n s)
   where
     go : (d : Bool) → length (cond d (list_of n (image_part n s)) (refused_line 12)) ≤ room_for n
-    go true = (list-laws n).fits (image_part n s)
-    go false = simp length-append (omega (arith, decimal-length 12))
+    go true = (list_laws n).fits (image_part n s)
+    go false = simp length-append (omega (arith, decimal_length 12))
 
 pub buffer_length : (n : ℕ) (s text : List ℕ) → length (report_buffer n s text) ≡ length text
 unfolding report_buffer
-buffer_length n s text = copied-length (report_of n s) text
+buffer_length n s text = copied_length (report_of n s) text
