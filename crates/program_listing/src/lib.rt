@@ -1,4 +1,4 @@
-// What the list program writes for a sheet.
+// What the list program reads and what it writes for a sheet.
 #![tactic(auto)]
 
 ghost use Rattle.std.specs.Prelude.{◌≡◌, ◌≤◌, length, IfOk};
@@ -47,7 +47,7 @@ fn read_some(input: &mut impl Read, bytes: &mut [u8]) -> io::Result<usize>
             Err(e) => return Err(e),
         }
     }
-    Ok(0)
+    input.read(bytes)
 }
 
 // The bytes of an input into a buffer, until the input ends or the buffer is full, and how many there are. The buffer has one byte more than
