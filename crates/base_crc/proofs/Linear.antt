@@ -4,8 +4,7 @@ use Prim.Native.Nat.{ℕ, zero, suc, ◌+◌, ◌*◌, ◌/◌, ◌%◌, ◌^◌
 use mathlib.Core.Path.{◌≡◌, refl, sym, ap, ap₂, ◌∙◌}
 use native.Mathlib.Nat.{zero-mul, mod-lt, div-one}
 use native.Mathlib.Omega.{arith}
-use lib.Arith.{bin_ind}
-use lib.Bits.{bit_xor, xor_add_and, xor_shr, xor_comm, xor_self, xor_zero_r}
+use lib.Bits.{bit_xor, xor_add_and, xor_assoc, xor_shr, xor_comm, xor_self, xor_zero_r}
 use lib.Dec.{lit<}
 use Rattle.base_types.specs.Bits.{one, odd, bits_of}
 use Rattle.base_types.proofs.Values.{one_odd}
@@ -13,18 +12,6 @@ use Rattle.base_types.proofs.Words.{half}
 use Rattle.base_crc.specs.Crc.{crc_bit, crc_bits}
 
 -- ---- xor
-
--- equal halves and equal lowest bits
-halves_equal : {n m : ℕ} → n / 2 ≡ m / 2 → n % 2 ≡ m % 2 → n ≡ m
-halves_equal p q = omega arith
-
-pub xor_assoc : (a b c : ℕ) → bit_xor (bit_xor a b) c ≡ bit_xor a (bit_xor b c)
-xor_assoc a =
-    bin_ind (λ (n : ℕ). (b c : ℕ) → bit_xor (bit_xor n b) c ≡ bit_xor n (bit_xor b c)) (λ b c. refl)
-    (λ n ih b c. halves_equal
-    (xor_shr (bit_xor n b) c 1 ∙ ap (λ (x : ℕ). bit_xor x (c / 2)) (xor_shr n b 1) ∙ ih (b / 2) (c / 2)
-    ∙ sym (xor_shr n (bit_xor b c) 1 ∙ ap (bit_xor (n / 2)) (xor_shr b c 1)))
-    (omega (arith, xor_add_and n b, xor_add_and b c, xor_add_and (bit_xor n b) c, xor_add_and n (bit_xor b c)))) a
 
 xor_four : (a b c d : ℕ) → bit_xor (bit_xor a b) (bit_xor c d) ≡ bit_xor (bit_xor a c) (bit_xor b d)
 xor_four a b c d =

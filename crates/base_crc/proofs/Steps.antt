@@ -1,12 +1,13 @@
 -- The bit step of the code is the step of the definition, for any polynomial.
-use mathlib.Core.Path.{◌≡◌, refl, sym, ap, ap₂, ◌∙◌}
+use mathlib.Core.Path.{◌≡◌, refl, sym, ap, ◌∙◌}
 use mathlib.Core.Bool.{Bool, true, false, not, beq}
-use Prim.Native.Nat.{ℕ, zero, suc, ◌+◌, ◌-◌, ◌*◌, ◌/◌, ◌%◌, ◌≤◌, ◌<◌}
-use native.Mathlib.Nat.{zero-mul, one-mul, not-suc-le-zero}
+use Prim.Native.Nat.{ℕ, suc, ◌+◌, ◌-◌, ◌*◌, ◌/◌, ◌%◌, ◌≤◌, ◌<◌}
+use native.Mathlib.Nat.{zero-mul, one-mul}
 use native.Mathlib.Omega.{arith}
 use lib.Bits.{bit_and, bit_xor, and_mask, xor_zero_r}
 use native.Mathlib.Numerals.{add-one}
-use mathlib.Core.List.{List}
+use mathlib.Core.List.{List, [], ◌∷◌}
+use Rattle.std.specs.List.{fold}
 use lib.ListN.{length, get_or, drop, drop_of_length-le}
 use lib.Seq.{drop-cons}
 use lib.Dec.{eqb}
@@ -55,18 +56,23 @@ module _ (p reg : ℕ) where
   differs true h = flip true (omega (arith, clear (beq_ne _ _ h)))
   differs false h = flip false (omega (arith, set (beq_ne _ _ h)))
 
--- the next of the bits that are left
-pub next_bit : (p r b left : ℕ) {r' : ℕ} → 0 < left → r' ≡ crc_bit p r (eqb (bit_and b 1) 1)
-    → crc_bits p r' (bits_of (left - 1) (b / 2)) ≡ crc_bits p r (bits_of left b)
+-- the next of n bits, after k of them
+pub next_bit : (p r b n k : ℕ) {r' : ℕ} → k < n → r' ≡ crc_bit p r (eqb (bit_and b 1) 1)
+    → crc_bits p r' (bits_of (n - (k + 1)) (b / 2)) ≡ crc_bits p r (bits_of (n - k) b)
 unfolding crc_bits bits_of
-next_bit p r b zero h e = absurd (not-suc-le-zero h)
-next_bit p r b (suc n) h e =
-    let k : suc n - 1 ≡ n = omega arith in
-    ap₂ (λ (x m : ℕ). crc_bits p x (bits_of m (b / 2))) (e ∙ ap (λ (x : ℕ). crc_bit p r (eqb x 1)) (low b)) k
+next_bit p r b n k h e =
+    let left : n - k ≡ suc (n - (k + 1)) = omega arith in
+    rw left (ap (λ x. crc_bits p x (bits_of (n - (k + 1)) (b / 2))) (e ∙ ap (λ x. crc_bit p r (eqb x 1)) (low b)))
 
 pub done : (p r b left : ℕ) → left ≡ 0 → r ≡ crc_bits p r (bits_of left b)
 unfolding crc_bits bits_of
 done p r b left e = sym (ap (λ (n : ℕ). crc_bits p r (bits_of n b)) e)
+
+-- bytes, one after the other
+pub bytes_folded : (p r : ℕ) (l : List ℕ) → fold (crc_byte p) r l ≡ crc_bytes p r l
+unfolding crc_bytes
+bytes_folded p r [] = refl
+bytes_folded p r (b ∷ l) = bytes_folded p (crc_byte p r b) l
 
 -- the next of the bytes that are left
 pub next_byte : (p r : ℕ) (l : List ℕ) (i : ℕ) {r' : ℕ} → i < length l → r' ≡ crc_byte p r (get_or l i 0)

@@ -5,7 +5,7 @@ use Prim.Native.Nat.{ℕ, zero, suc, ◌+◌, ◌*◌, ◌/◌, ◌%◌, ◌<◌
 use mathlib.Core.Path.{◌≡◌, sym, ap, ap₂, ◌∙◌}
 use native.Mathlib.Nat.{add-zero, zero-add, mul-one, le_of_suc-le-suc, not-suc-le-zero, mod-lt}
 use native.Mathlib.Omega.{arith}
-use lib.Bits.{bit_xor, xor_shifted, xor_comm, xor_self, xor_zero_r}
+use lib.Bits.{bit_xor, xor_assoc, xor_shifted, xor_comm, xor_self, xor_zero_r}
 use lib.Dec.{lit<}
 use lib.ListN.{get_or}
 use Rattle.base_types.specs.Bits.{bits_of}
@@ -13,7 +13,7 @@ use Rattle.base_types.specs.Scan.{values_from}
 use Rattle.base_types.proofs.Words.{bits_low}
 use Rattle.base_crc.specs.Crc.{crc_bits, crc_byte}
 use Rattle.base_crc.specs.Table.{entries_of, table_of, low_nibbles_of, high_nibbles_of, entry_index, step_by, step_by_nibbles, TableLaws}
-use Rattle.base_crc.proofs.Linear.{xor_assoc, linear, apart}
+use Rattle.base_crc.proofs.Linear.{linear, apart}
 
 value_at : (f : ℕ → ℕ) (n i k : ℕ) → k < n → get_or (values_from f i n) k 0 ≡ f (i + k)
 unfolding values_from

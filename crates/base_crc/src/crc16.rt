@@ -1,5 +1,5 @@
 // CRC-16, x^16 + x^15 + x^2 + 1. The register is cleared first, or loaded with an address, and is sent complemented, low byte first.
-ghost use Rattle.std.specs.Prelude.{◌≡◌, ◌%◌};
+ghost use Rattle.std.specs.Prelude.{◌≡◌};
 ghost use Rattle.base_crc.specs.Crc.{crc16_byte, crc16_from, crc16_of, crc16_load, crc16_word, crc16_sent};
 ghost use Rattle.base_crc.specs.Polynomial.{crc16_polynomial};
 ghost use Rattle.base_crc.specs.Table.{table_of, low_nibbles_of, high_nibbles_of, step_by_nibbles};
@@ -35,18 +35,11 @@ fn high_nibbles() -> [u16; 16]
 
 // ---- the register after more bytes
 
-// The low byte of a 16-bit number.
-fn low_byte(x: u16) -> u8
-    ensures { result ≡ x % 256 }
-{
-    (x & 0xFF) as u8
-}
-
 // One more byte, by the nibbles' entries.
 fn step_by_nibbles(low: &[u16; 16], high: &[u16; 16], reg: u16, byte: u8) -> u16
     ensures { result ≡ step_by_nibbles low.now high.now reg byte }
 {
-    let place = low_byte(reg ^ byte as u16);
+    let [place, _] = (reg ^ byte as u16).to_le_bytes();
     (reg >> 8) ^ (low[(place & 15) as usize] ^ high[(place >> 4) as usize])
 }
 
@@ -67,13 +60,11 @@ pub fn run(reg: u16, bytes: &[u8]) -> u16
     let entries = table();
     let mut rest = reg;
     let mut place = 0u8;
-    let mut i = 0;
-    while i < bytes.len() {
-        let next = rest ^ bytes[i] as u16;
+    for b in bytes {
+        let next = rest ^ *b as u16;
         let entry = entries[place as usize];
-        place = low_byte(next ^ entry);
+        place = (next ^ entry).to_le_bytes()[0];
         rest = (rest ^ entry) >> 8;
-        i += 1;
     }
     rest ^ entries[place as usize]
 }
@@ -103,6 +94,6 @@ pub fn word(reg: u16) -> u16
 pub fn sent(reg: u16) -> SentBytes
     ensures { result ≡ crc16_sent reg }
 {
-    let w = word(reg);
-    SentBytes(low_byte(w), (w >> 8) as u8)
+    let [low, high] = word(reg).to_le_bytes();
+    SentBytes(low, high)
 }

@@ -19,11 +19,9 @@ pub fn byte(reg: u8, byte: u8) -> u8
 {
     let mut r = reg;
     let mut b = byte;
-    let mut left = 8u8;
-    while left > 0 {
+    for _ in 0..8u8 {
         r = bit(r, b & 1 == 1);
         b = b >> 1;
-        left -= 1;
     }
     r
 }
@@ -32,13 +30,7 @@ pub fn byte(reg: u8, byte: u8) -> u8
 pub fn run(reg: u8, bytes: &[u8]) -> u8
     ensures { result ≡ crc8_from reg bytes.now }
 {
-    let mut r = reg;
-    let mut i = 0;
-    while i < bytes.len() {
-        r = byte(r, bytes[i]);
-        i += 1;
-    }
-    r
+    bytes.iter().fold(reg, |r, b| byte(r, *b))
 }
 
 // The register after the bytes, from a cleared one.

@@ -3,9 +3,7 @@ use Rattle.std.specs.Prelude.{ℕ, ◌+◌, ◌*◌, ◌%◌, ◌<◌, ◌≡◌
 use Rattle.std.specs.Int.Signed.{lt_z, le_z}
 use Rattle.std.specs.Int.{w16}
 use Rattle.std.proofs.Common.{to_z}
-use Rattle.base_types.specs.Outcome.{Outcome, accepted, refusing, judge}
-use Rattle.base_tenths.specs.declared.Tenths.{Tenths}
-use Rattle.base_tenths.specs.declared.Tenths.TheVariants.{Refused, Outcome as OutcomeTenths}
+use Rattle.base_types.specs.Outcome.{Outcome, accepted, judge}
 
 -- ---- two bytes
 
@@ -45,10 +43,6 @@ pub record Folds (x d : ℤ) : Type 0 where
 -- as a computation, for the difference of two values
 unfoldable pub fold_of : ℤ → ℤ
 fold_of x = cond (lt_z x least) (x +ℤ pos 3600) (cond (lt_z greatest x) (x -ℤ pos 3600) x)
-
-abbrev pub tenths_outcome : Tenths → Outcome ℤ
-tenths_outcome (Refused r) = refusing r
-tenths_outcome (OutcomeTenths v) = accepted v
 
 -- 19 where either is no value, or new less old, folded
 unfoldable pub change_answer : ℤ → ℤ → Outcome ℤ

@@ -5,7 +5,7 @@ use mathlib.Core.Bool.{Bool, true, false, ◌&&◌}
 use mathlib.Core.Logic.{⊎_elim}
 use native.Mathlib.Omega.{arith}
 use native.Mathlib.Nat.{eq-or-lt_of_le}
-use Rattle.base_types.specs.Scan.{every, count}
+use Rattle.base_types.specs.Scan.{every}
 
 -- one turn of a loop over the numbers below n
 module _ (t : ℕ → Bool) (n i : ℕ) where
@@ -24,22 +24,10 @@ module _ (t : ℕ → Bool) (n i : ℕ) where
   unfolding every
   every_over le = let e : n - i ≡ 0 = omega arith in ap (λ k. every t k i) e
 
-  pub count_more : i < n → t i ≡ true → count t (n - i) i ≡ count t (n - (i + 1)) (i + 1) + 1
-  unfolding count
-  count_more lt e = ap (λ k. count t k i) (ahead lt) ∙ simp e
-
-  pub count_same : i < n → t i ≡ false → count t (n - i) i ≡ count t (n - (i + 1)) (i + 1)
-  unfolding count
-  count_same lt e = ap (λ k. count t k i) (ahead lt) ∙ simp e
-
-  pub count_over : n ≤ i → count t (n - i) i ≡ 0
-  unfolding count
-  count_over le = let e : n - i ≡ 0 = omega arith in ap (λ k. count t k i) e
-
 -- what the tests mean
 pub both_true : (a b : Bool) → (a && b) ≡ true → (a ≡ true) × (b ≡ true)
 both_true true b e = (refl, e)
-both_true false b e = (e, absurd (let z : ◌≡◌ {A = ℕ} 0 1 = cc in omega arith))
+both_true false b e = (e, cc)
 
 pub both_intro : (a b : Bool) → a ≡ true → b ≡ true → (a && b) ≡ true
 both_intro a b e f = simp (e, f)

@@ -2,10 +2,8 @@
 use Prim.Native.Nat.{ℕ}
 use mathlib.Core.Bool.{Bool, true, false, not, cond, ◌&&◌}
 use mathlib.Core.Path.{◌≡◌, refl, sym}
-use native.Mathlib.Omega.{arith}
 use lib.Dec.{ltb, leb}
 use borrow.Author.Tests.{lt-leb, le-leb, ltb-true, ltb-false}
-use Rattle.base_types.specs.Outcome.{accepted, done, in_order}
 
 -- two tests, one after the other: both hold, or the second alone
 pub both : (t x : Bool) → cond t x false ≡ true → (t ≡ true) × (x ≡ true)
@@ -32,13 +30,6 @@ and_true false = refl
 pub and_assoc : (p q r : Bool) → ((p && q) && r) ≡ (p && (q && r))
 and_assoc true q r = refl
 and_assoc false q r = refl
-
--- what is accepted in order is right in each part
-pub in_order_lem : (image ranges lengths : Bool) → in_order image ranges lengths ≡ accepted done → (image ≡ true) × ((ranges ≡ true) × (lengths ≡ true))
-in_order_lem true true true e = (refl, (refl, refl))
-in_order_lem true true false e = absurd (let y : ◌≡◌ {A = ℕ} 0 1 = cc in omega arith)
-in_order_lem true false lengths e = absurd (let y : ◌≡◌ {A = ℕ} 0 1 = cc in omega arith)
-in_order_lem false ranges lengths e = absurd (let y : ◌≡◌ {A = ℕ} 0 1 = cc in omega arith)
 
 -- what holds of both cases of a test
 pub either : {A : Type 0} (P : A → Type 0) (t : Bool) (x y : A) → (t ≡ true → P x) → (t ≡ false → P y) → P (cond t x y)

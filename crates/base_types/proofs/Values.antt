@@ -30,16 +30,9 @@ bits_value (b ∷ bs) =
     let h : (one b + 2 * value_of bs) / 2 ≡ value_of bs = omega (arith, one_le b) in
     ap₂ (λ (x : Bool) (y : List Bool). x ∷ y) (odd_of b (value_of bs)) (ap (bits_of (length bs)) h ∙ bits_value bs)
 
--- bits are those of the number that they write
-pub value_bits : (bs : List Bool) (k : ℕ) → length bs ≡ k → bs ≡ bits_of k (value_of bs)
-value_bits bs k l = sym (ap (λ (n : ℕ). bits_of n (value_of bs)) (sym l) ∙ bits_value bs)
-
 pub value_below : (bs : List Bool) → value_of bs < 2 ^ length bs
 value_below [] = omega arith
 value_below (b ∷ bs) = omega (arith, one_le b, value_below bs, pow-succ' 2 (length bs))
-
-pub byte_below : (bs : List Bool) → length bs ≡ 8 → value_of bs < 256
-byte_below bs l = rw l at (value_below bs)
 
 pub one_odd : (v : ℕ) → one (odd v) ≡ v % 2
 one_odd v = go (eqb (v % 2) 1) refl

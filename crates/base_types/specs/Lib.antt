@@ -1,3 +1,4 @@
+pub mod Address
 pub mod Bits
 pub mod Filled
 pub mod Refusal

@@ -1,9 +1,7 @@
 -- What a public entry tells its caller: a refusal, by document 01's number with the values given back, or what was asked for.
--- Every contract of an entry that may refuse is an equation between what the code's enum tells and one of these.
-use Rattle.std.specs.Prelude.{ℕ, Bool, true, false, List, []}
+-- Every contract of an entry that may refuse is an equation between what the code's result tells and one of these.
+use Rattle.std.specs.Prelude.{ℕ, Bool, true, false, List, [], Result, Ok, Err, ⊤}
 use Rattle.base_types.specs.declared.refusal.Refusal.{Refusal}
-use Rattle.base_types.specs.declared.refusal.Judged.{Judged}
-use Rattle.base_types.specs.declared.refusal.Judged.TheVariants.{Refused, Accepted}
 use Rattle.base_types.specs.Refusal.{number_of, values_of}
 
 pub data Outcome (A : Type 0) : Type 0 where
@@ -19,13 +17,17 @@ abbrev pub judge : {A : Type 0} → Bool → ℕ → Outcome A → Outcome A
 judge true number rest = rest
 judge false number rest = refused number []
 
--- nothing more than that it is accepted
-pub data Done : Type 0 where
-  done : Done
+-- what a result of the code tells
+abbrev pub outcome_of : {A : Type 0} → Result A Refusal → Outcome A
+outcome_of (Ok a) = accepted a
+outcome_of (Err r) = refusing r
 
-abbrev pub judged_outcome : Judged → Outcome Done
-judged_outcome (Refused r) = refusing r
-judged_outcome Accepted = accepted done
+-- nothing more than that it is accepted
+abbrev pub Done : Type 0
+Done = ⊤
+
+abbrev pub done : Done
+done = tt
 
 -- a buffer or a state: the new one where the answer is not refused, and else the old one
 abbrev pub unless_refused : {A B : Type 0} → Outcome A → B → B → B

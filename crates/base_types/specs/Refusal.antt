@@ -1,8 +1,6 @@
 -- Document 01's table of refusals, and document 02's after it (16 to 19, M-102; 20, M-104): the number of each, and the values that it
 -- gives back. A state is given back beside it.
-use Rattle.std.specs.Prelude.{ℕ, cond, List, [], ◌∷◌, ◌≡◌, eqb, get_or}
-use Rattle.base_types.specs.declared.refusal.Given.{Given}
-use Rattle.base_types.specs.declared.refusal.Given.TheVariants.{Nothing, One}
+use Rattle.std.specs.Prelude.{ℕ, cond, List, ◌≡◌, Some, None, option_to_list, eqb, get_or}
 use Rattle.base_types.specs.declared.refusal.Numbered.{Numbered}
 use Rattle.base_types.specs.declared.refusal.Refusal.{Refusal}
 use Rattle.base_types.specs.declared.refusal.Refusal.TheVariants.{ImageLength, StateRange, PageNumber, Loop, Outside, Crc16, ReadBack, NoFreePage}
@@ -10,10 +8,10 @@ use Rattle.base_types.specs.declared.refusal.Refusal.TheVariants.{RedirectionPro
 use Rattle.base_types.specs.declared.refusal.Refusal.TheVariants.{Column, NoValue, DataProtected}
 
 abbrev plain : ℕ → Numbered
-plain number = record { 0 = number; 1 = Nothing }
+plain number = record { 0 = number; 1 = None }
 
 abbrev giving : ℕ → ℕ → Numbered
-giving number value = record { 0 = number; 1 = One value }
+giving number value = record { 0 = number; 1 = Some value }
 
 abbrev pub numbered : Refusal → Numbered
 numbered ImageLength = plain 1
@@ -36,16 +34,11 @@ numbered Column = plain 18
 numbered NoValue = plain 19
 numbered (DataProtected l) = giving 20 l.0
 
--- what the code's enum of given values tells
-abbrev pub given_values : Given → List ℕ
-given_values Nothing = []
-given_values (One v) = v ∷ []
-
 abbrev pub number_of : Refusal → ℕ
 number_of r = (numbered r).0
 
 abbrev pub values_of : Refusal → List ℕ
-values_of r = given_values (numbered r).1
+values_of r = option_to_list (numbered r).1
 
 -- the other way: the refusal of a number, with its values
 unfoldable pub refusal_of : ℕ → List ℕ → Refusal

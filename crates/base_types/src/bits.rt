@@ -1,13 +1,6 @@
 // The bits of a number, by shift and mask. All bytes go least significant bit first.
-ghost use Rattle.std.specs.Prelude.{◌&&◌, ◌≡◌, ◌%◌};
-ghost use Rattle.base_types.specs.Bits.{one, odd, bit_at, shift_in, same};
-
-// A bit as a byte.
-pub fn byte(bit: bool) -> u8
-    ensures { result ≡ one bit }
-{
-    if bit { 1 } else { 0 }
-}
+ghost use Rattle.std.specs.Prelude.{◌≡◌, ◌%◌};
+ghost use Rattle.base_types.specs.Bits.{odd, bit_at, shift_in};
 
 // The lowest bit of a 16-bit register.
 pub fn low(x: u16) -> bool
@@ -32,18 +25,4 @@ pub fn shift_in(register: u8, bit: bool) -> u8
     } else {
         register >> 1
     }
-}
-
-// Two bits agree.
-pub fn agree(a: bool, b: bool) -> bool
-    ensures { result ≡ same a b }
-{
-    if a { b } else { !b }
-}
-
-// The line: low where either pulls it low.
-pub fn line(a: bool, b: bool) -> bool
-    ensures { result ≡ (a && b) }
-{
-    if a { b } else { false }
 }

@@ -1,7 +1,7 @@
 use crate::address::Page;
 
 // How the walk from a page ends: at a valid page, after so many hops; never; or at a byte that names a page above the last one.
-#[derive(Clone, Copy)]
+#[derive(Clone, Copy, Debug, PartialEq, Eq)]
 pub enum Verdict {
     Final(Page, u8),
     Loop,

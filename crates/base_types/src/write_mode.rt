@@ -5,24 +5,22 @@ ghost use Rattle.base_types.specs.WriteMode.{write_command};
 use crate::address::Space;
 
 // Ordinary: a CRC is sent before each pulse. Quick: none is, the data sheet's speed-programming mode.
-#[derive(Clone, Copy)]
+#[derive(Clone, Copy, Debug, PartialEq, Eq)]
 pub enum WriteMode {
     Ordinary,
     Quick,
 }
 
-// The command byte that writes a memory.
-pub fn command(mode: WriteMode, space: Space) -> u8
-    ensures { result ≡ write_command mode space }
-{
-    match mode {
-        WriteMode::Ordinary => match space {
-            Space::Data => 0x0F,
-            Space::Status => 0x55,
-        },
-        WriteMode::Quick => match space {
-            Space::Data => 0xF3,
-            Space::Status => 0xF5,
-        },
+impl WriteMode {
+    // The command byte that writes a memory.
+    pub fn command(self, space: Space) -> u8
+        ensures { result ≡ write_command self space }
+    {
+        match (self, space) {
+            (WriteMode::Ordinary, Space::Data) => 0x0F,
+            (WriteMode::Ordinary, Space::Status) => 0x55,
+            (WriteMode::Quick, Space::Data) => 0xF3,
+            (WriteMode::Quick, Space::Status) => 0xF5,
+        }
     }
 }

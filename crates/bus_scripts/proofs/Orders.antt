@@ -42,7 +42,7 @@ ordered {script} {es} h replies = order_from replies (λ first. script) es (λ f
 pub all_sent : {B : Type 0} (react : B → Event → B) (line : B → Event → Bool) {script : Script} {es : List Event} → Keeps script es → (b : B) (values : List ℕ)
     → (play_on react line script b).told ≡ accepted (tells values) → (play_on react line script b).events ≡ es
 unfolding play_on
-all_sent react line stopping b values e = absurd (let z : ◌≡◌ {A = ℕ} 0 1 = cc in omega arith)
+all_sent react line stopping b values e = cc
 all_sent react line giving b values e = refl
 all_sent react line (sending {event} h) b values e =
     ap (λ (l : List Event). event ∷ l) (all_sent react line (h (line b event)) (react b event) values e)

@@ -1,5 +1,5 @@
 -- What the computed tests for a free page mean.
-use Prim.Native.Nat.{ℕ, ◌-◌, ◌<◌, ◌≤◌}
+use Prim.Native.Nat.{ℕ, ◌<◌, ◌≤◌}
 use mathlib.Core.Path.{◌≡◌, refl, sym, ◌∙◌}
 use mathlib.Core.Bool.{Bool, true, false, not}
 use mathlib.Core.List.{List}
@@ -8,7 +8,7 @@ use lib.Dec.{eqb}
 use borrow.Author.Tests.{eqb-true, eqb-false, not-true, eq-eqb, ne_eqb}
 use Rattle.chip_memory.specs.Layout.{first_address}
 use Rattle.chip_memory.specs.Image.{redirection_of, page_bit}
-use Rattle.chip_chain.specs.declared.free.Found.TheVariants.{At, Nothing}
+use Rattle.std.specs.Prelude.{Some, None}
 use Rattle.chip_chain.specs.Walk.{named_by}
 use Rattle.chip_chain.specs.Free.{names, is_unnamed, is_free, is_free_other, lowest_free, Free, Lowest, FreeLaws}
 use Rattle.base_types.proofs.Scan.{both_true, every_means, every_intro}
@@ -46,16 +46,16 @@ is_l n img l p f e = go (eqb p l) refl
   where
     go : (b : Bool) → eqb p l ≡ b → p ≡ l
     go true z = eqb-true p l z
-    go false z = let r : ◌≡◌ {A = Bool} true false = simp (z, means_free n img p f) at e in absurd (let y : ◌≡◌ {A = ℕ} 0 1 = cc in omega arith)
+    go false z = let r : ◌≡◌ {A = Bool} true false = simp (z, means_free n img p f) at e in absurd (cc)
 
 -- a byte that names no page p ≥ 1 names another one
 pub named_elsewhere : (byte p : ℕ) → 1 ≤ p → names byte p ≡ false → named_by byte ≡ p → ⊥
 named_elsewhere byte p low e z =
     let s : names byte p ≡ true = simp (ne_eqb byte 255 (λ w. omega arith), eq-eqb _ _ z) in
     let y : ◌≡◌ {A = Bool} true false = sym s ∙ e in
-    let x : ◌≡◌ {A = ℕ} 0 1 = cc in omega arith
+    cc
 
-pub found_means : (n : ℕ) (img : List ℕ) (l t : ℕ) → lowest_free n img l ≡ At (record { 0 = t }) → Lowest n img l t
+pub found_means : (n : ℕ) (img : List ℕ) (l t : ℕ) → lowest_free n img l ≡ Some (record { 0 = t }) → Lowest n img l t
 unfolding lowest_free is_free_other
 found_means n img l t e =
     let f = first_at (is_free_other n img l) n 0 t e in
@@ -68,7 +68,7 @@ found_means n img l t e =
     }
 
 -- no page found: there is none
-pub nothing_means : (n : ℕ) (img : List ℕ) (l : ℕ) → lowest_free n img l ≡ Nothing → (p : ℕ) → p < n → Free n img p → p ≡ l
+pub nothing_means : (n : ℕ) (img : List ℕ) (l : ℕ) → lowest_free n img l ≡ None → (p : ℕ) → p < n → Free n img p → p ≡ l
 unfolding lowest_free
 nothing_means n img l e p lt f = is_l n img l p f (first_nothing (is_free_other n img l) n 0 e p (omega arith) (omega arith))
 

@@ -1,4 +1,5 @@
 pub mod Frees
+pub mod Pages
 mod Pigeon
 pub mod Scan
 pub mod Walks

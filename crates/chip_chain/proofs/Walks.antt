@@ -10,7 +10,7 @@ use borrow.Author.Count.{below_more}
 use lib.Dec.{eqb, ltb}
 use borrow.Author.Tests.{eqb-true, eqb-false, ltb-true, ltb-false, eq-eqb, ne_eqb, lt-ltb, le-ltb}
 use Rattle.base_types.specs.declared.address.Page.{Page}
-use Rattle.base_types.specs.declared.verdict.Verdict.TheVariants.{Final, Loop, Outside}
+use Rattle.base_types.specs.declared.verdict.Verdict.TheVariants.{Loop, Outside}
 use Rattle.base_types.specs.Verdict.{final}
 use Rattle.chip_memory.specs.Image.{redirection_of}
 use Rattle.chip_chain.specs.Walk.{named_by, walk_from, walk_by, walk_of}
@@ -32,13 +32,13 @@ byte b n p = go (eqb (b p) 255) (ltb (named_by (b p)) n) refl refl
     go false false e l = beyond (eqb-false _ _ e) (ltb-false _ _ l)
 
 pub final_not_loop : {p h : ℕ} → final p h ≡ Loop → ⊥
-final_not_loop e = let z : ◌≡◌ {A = ℕ} 0 1 = cc in omega arith
+final_not_loop e = cc
 
 pub final_not_outside : {p h x : ℕ} → final p h ≡ Outside x → ⊥
-final_not_outside e = let z : ◌≡◌ {A = ℕ} 0 1 = cc in omega arith
+final_not_outside e = cc
 
 pub outside_not_loop : {x : ℕ} → Outside x ≡ Loop → ⊥
-outside_not_loop e = let z : ◌≡◌ {A = ℕ} 0 1 = cc in omega arith
+outside_not_loop e = cc
 
 module _ (b : ℕ → ℕ) (n : ℕ) where
   -- one step of the walk, by what the byte says
@@ -208,3 +208,6 @@ walk_laws n img p lt =
       loop_means = loop_means b n p lt;
       final_hops = λ f h. final_hops b n p f h lt;
     }
+
+-- one step of the code's loop
+pub ruleset steps = (loop_valid, loop_beyond, loop_inside, loop_over)

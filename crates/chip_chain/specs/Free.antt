@@ -1,11 +1,10 @@
 -- A free page: it is 1 to the last, its bitmap bit is 1, its data are all FFh and unprotected, its redirection byte is FFh and no
 -- redirection byte names it.
-use Rattle.std.specs.Prelude.{ℕ, ◌+◌, ◌*◌, ◌/◌, ◌%◌, ◌^◌, ◌≤◌, ◌<◌, ◌≡◌, Bool, true, false, not, ◌&&◌, List, eqb, get_or}
+use Rattle.std.specs.Prelude.{ℕ, ◌+◌, ◌*◌, ◌/◌, ◌%◌, ◌^◌, ◌≤◌, ◌<◌, ◌≡◌, Bool, true, false, not, ◌&&◌, List, Option, Some, None, eqb, get_or}
+use Rattle.base_types.specs.declared.address.Page.{Page}
 use Rattle.chip_memory.specs.declared.layout.Field.TheVariants.{DataProtection, UsedPages}
 use Rattle.chip_memory.specs.Image.{redirection_of, page_bytes, page_bit}
 use Rattle.chip_memory.specs.Page.{is_blank}
-use Rattle.chip_chain.specs.declared.free.Found.{Found}
-use Rattle.chip_chain.specs.declared.free.Found.TheVariants.{At, Nothing}
 use Rattle.base_types.specs.Scan.{every, count}
 use Rattle.chip_chain.specs.Scan.{first}
 use Rattle.chip_chain.specs.Walk.{named_by}
@@ -33,7 +32,7 @@ unfoldable pub is_free_other : ℕ → List ℕ → ℕ → ℕ → Bool
 is_free_other n img other p = not (eqb p other) && is_free n img p
 
 -- the lowest free page other than the one given
-unfoldable pub lowest_free : ℕ → List ℕ → ℕ → Found
+unfoldable pub lowest_free : ℕ → List ℕ → ℕ → Option Page
 lowest_free n img other = first (is_free_other n img other) n 0
 
 abbrev pub free_count : ℕ → List ℕ → ℕ
@@ -60,9 +59,9 @@ pub record Lowest (n : ℕ) (img : List ℕ) (other t : ℕ) : Type 0 where
 pub record FreeLaws (n : ℕ) (img : List ℕ) : Type 0 where
   pub free_means : (p : ℕ) → is_free n img p ≡ true → Free n img p
   pub means_free : (p : ℕ) → Free n img p → is_free n img p ≡ true
-  pub found_means : (other t : ℕ) → lowest_free n img other ≡ At (record { 0 = t }) → Lowest n img other t
+  pub found_means : (other t : ℕ) → lowest_free n img other ≡ Some (record { 0 = t }) → Lowest n img other t
   -- the bits and the byte that this speaks of, in plain numbers: the status stands behind the 32n bytes of data
   pub used_bit : (p : ℕ) → page_bit n UsedPages img p ≡ eqb (get_or img (32 * n + (0x40 + p / 8)) 0 / 2 ^ (p % 8) % 2) 1
   pub protection_bit : (p : ℕ) → page_bit n DataProtection img p ≡ eqb (get_or img (32 * n + (0x00 + p / 8)) 0 / 2 ^ (p % 8) % 2) 1
   pub redirection_byte : (p : ℕ) → redirection_of n img p ≡ get_or img (32 * n + (0x100 + p)) 0
-  pub nothing_means : (other : ℕ) → lowest_free n img other ≡ Nothing → (p : ℕ) → p < n → Free n img p → p ≡ other
+  pub nothing_means : (other : ℕ) → lowest_free n img other ≡ None → (p : ℕ) → p < n → Free n img p → p ≡ other

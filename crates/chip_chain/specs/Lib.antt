@@ -2,4 +2,3 @@ pub mod Walk
 pub mod Chain
 pub mod Scan
 pub mod Free
-pub mod Code

@@ -1,6 +1,6 @@
 -- The chip, driven by bus events, over the page count n.
 use Rattle.std.specs.Prelude.{ℕ, Bool, true, false, ◌&&◌, List}
-use Rattle.base_types.specs.Outcome.{Outcome, refused, accepted, refusing, judge, unless_refused}
+use Rattle.base_types.specs.Outcome.{Outcome, accepted, judge, unless_refused}
 use Rattle.bus_events.specs.declared.Event.{Event}
 use Rattle.bus_events.specs.declared.Event.TheVariants.{Reset, Slot, Pulse, PowerLoss}
 use Rattle.chip_rom.specs.declared.RomStage.TheVariants.{Command as RomCommand}
@@ -16,8 +16,6 @@ use Rattle.chip_function.specs.Ranges.{memory_in_range}
 use Rattle.chip_entries.specs.declared.event.Stage.{Stage}
 use Rattle.chip_entries.specs.declared.event.Stage.TheVariants.{Rom, Memory}
 use Rattle.chip_entries.specs.declared.event.State.{State}
-use Rattle.chip_entries.specs.declared.event.Answer.{Answer}
-use Rattle.chip_entries.specs.declared.event.Answer.TheVariants.{Refused, Reply}
 
 -- silent until reset
 abbrev pub silent : Stage
@@ -89,10 +87,6 @@ stage_after n stage PowerLoss number img = silent
 unfoldable pub chip_in_range : ℕ → Stage → Bool
 chip_in_range n (Rom r) = rom_in_range r
 chip_in_range n (Memory m) = memory_in_range n m
-
-abbrev pub event_outcome : Answer → Outcome Bool
-event_outcome (Refused r) = refusing r
-event_outcome (Reply bit) = accepted bit
 
 -- 1, 2, or the reply
 unfoldable pub event_answer : ℕ → State → Event → List ℕ → Outcome Bool

@@ -1,49 +1,40 @@
 // The chip, driven by bus events.
-ghost use Rattle.std.specs.Prelude.{◌≡◌, true, ◌&&◌, length, set};
-ghost use Rattle.base_types.specs.Bits.{one};
-ghost use Rattle.base_types.specs.Outcome.{judged_outcome, in_order};
+ghost use Rattle.std.specs.Prelude.{◌≡◌, true, ◌&&◌, length};
+ghost use Rattle.base_types.specs.Outcome.{outcome_of, in_order};
 ghost use Rattle.chip_memory.specs.Layout.{page_count, is_image};
-ghost use Rattle.chip_entries.specs.Run.{are_events, reply_bytes, events_at, chip_with, run, run_answer, ran_chip, ran_replies};
+ghost use Rattle.chip_memory.specs.Memory.{bytes, pages};
+ghost use Rattle.chip_entries.specs.Run.{are_events, reply_bytes, events_at, run, run_answer, ran_chip, ran_replies, line_of};
 ghost use Rattle.chip_entries.specs.Event.{power_up, after_rom, stage_slot, stage_bit, stage_pulse, pulse_image_of, chip_in_range, reply_of, image_after, stage_after};
-ghost use Rattle.chip_entries.specs.Event.{event_outcome, event_answer, event_state, event_image};
+ghost use Rattle.chip_entries.specs.Event.{event_answer, event_state, event_image};
 
 use base_types::address::Page;
-use base_types::refusal::{Judged, Refusal};
-use base_types::{bits, refusal};
+use base_types::refusal;
+use base_types::refusal::Refusal;
+use base_types::stepped::Stepped;
 use bus_events::Event;
 use chip_function::{function, ranges};
+use chip_memory::image::Memory;
 use chip_memory::layout;
 use chip_rom::{RomOutcome, RomStage};
 use chip_stage::stage;
 use chip_stage::stage::{Incoming, MemoryStage};
 
 // Where the chip stands: in a ROM function, or in a memory function. A silent chip counts as the latter.
-#[derive(Clone, Copy)]
+#[derive(Clone, Copy, Debug, PartialEq, Eq)]
 pub enum Stage {
     Rom(RomStage),
     Memory(MemoryStage),
 }
 
 // The stage, and the registration number, eight bytes of any value.
-#[derive(Clone, Copy)]
+#[derive(Clone, Copy, Debug, PartialEq, Eq)]
 pub struct State {
     pub stage: Stage,
     pub number: [u8; 8],
 }
 
-#[derive(Clone, Copy)]
-pub enum Answer {
-    Refused(Refusal),
-    Reply(bool),
-}
-
-#[derive(Clone, Copy)]
-pub struct Stepped {
-    pub answer: Answer,
-    pub state: State,
-}
-
 // A chip at power-up: silent until reset.
+#[tactic(auto, unfolding(crate::specs::Event::power_up))]
 pub fn power_up(number: [u8; 8]) -> State
     ensures { result ≡ power_up number }
 {
@@ -54,6 +45,7 @@ pub fn power_up(number: [u8; 8]) -> State
 }
 
 // The stage after a slot of a ROM function.
+#[tactic(auto, unfolding(crate::specs::Event::after_rom))]
 fn after_rom(outcome: RomOutcome) -> Stage
     ensures { result ≡ after_rom outcome }
 {
@@ -64,36 +56,8 @@ fn after_rom(outcome: RomOutcome) -> Stage
     }
 }
 
-fn slot(last: Page, stage: Stage, bit: bool, number: [u8; 8], image: &[u8]) -> Stage
-    ensures { result ≡ stage_slot (page_count last) stage bit number image.now }
-{
-    match stage {
-        Stage::Rom(r) => after_rom(chip_rom::slot(r, bit, number)),
-        Stage::Memory(m) => Stage::Memory(function::slot(last, m, bit, image)),
-    }
-}
-
-// The chip's bit in a slot, 1 where it is not sending.
-fn chip_bit(stage: Stage, number: [u8; 8]) -> bool
-    ensures { result ≡ stage_bit stage number }
-{
-    match stage {
-        Stage::Rom(r) => chip_rom::chip_bit(r, number),
-        Stage::Memory(m) => function::chip_bit(m),
-    }
-}
-
-fn pulse(last: Page, stage: Stage, image: &mut [u8]) -> Stage
-    ensures image { image.new ≡ pulse_image_of (page_count last) stage image.old }
-    ensures stage { result ≡ stage_pulse (page_count last) stage image.new }
-{
-    match stage {
-        Stage::Rom(r) => Stage::Rom(r),
-        Stage::Memory(m) => Stage::Memory(function::pulse(last, m, image)),
-    }
-}
-
 // The fields of a stage are within their ranges.
+#[tactic(auto, unfolding(crate::specs::Event::chip_in_range))]
 fn in_range(last: Page, stage: Stage) -> bool
     ensures { result ≡ chip_in_range (page_count last) stage }
 {
@@ -103,142 +67,160 @@ fn in_range(last: Page, stage: Stage) -> bool
     }
 }
 
-fn reply(stage: Stage, event: Event, number: [u8; 8]) -> bool
-    ensures { result ≡ reply_of stage event number }
-{
-    match event {
-        Event::Reset => false,
-        Event::Slot(bit) => bits::line(bit, chip_bit(stage, number)),
-        Event::Pulse => true,
-        Event::PowerLoss => true,
+// What an event draws, and the stage after it.
+impl State {
+    #[tactic(auto, unfolding(crate::specs::Event::stage_slot))]
+    fn slot(self, memory: &Memory, bit: bool) -> Stage
+        ensures { result ≡ stage_slot (pages memory.now) self.stage bit self.number (bytes memory.now) }
+    {
+        match self.stage {
+            Stage::Rom(r) => after_rom(chip_rom::slot(r, bit, self.number)),
+            Stage::Memory(m) => Stage::Memory(function::slot(memory, m, bit)),
+        }
     }
-}
 
-fn advance(last: Page, stage: Stage, event: Event, number: [u8; 8], image: &mut [u8]) -> Stage
-    ensures image { image.new ≡ image_after (page_count last) stage event image.old }
-    ensures stage { result ≡ stage_after (page_count last) stage event number image.new }
-{
-    match event {
-        Event::Reset => Stage::Rom(RomStage::Command(0, 0)),
-        Event::Slot(bit) => slot(last, stage, bit, number, image),
-        Event::Pulse => pulse(last, stage, image),
-        Event::PowerLoss => Stage::Memory(MemoryStage::Silent),
+    // The chip's bit in a slot, 1 where it is not sending.
+    #[tactic(auto, unfolding(crate::specs::Event::stage_bit))]
+    fn bit(self) -> bool
+        ensures { result ≡ stage_bit self.stage self.number }
+    {
+        match self.stage {
+            Stage::Rom(r) => chip_rom::chip_bit(r, self.number),
+            Stage::Memory(m) => function::chip_bit(m),
+        }
+    }
+
+    #[tactic(auto, unfolding(crate::specs::Event::pulse_image_of, crate::specs::Event::stage_pulse))]
+    fn pulse(self, last: Page, image: &mut [u8]) -> Stage
+        ensures image { image.new ≡ pulse_image_of (page_count last) self.stage image.old }
+        ensures stage { result ≡ stage_pulse (page_count last) self.stage image.new }
+    {
+        match self.stage {
+            Stage::Rom(_) => self.stage,
+            Stage::Memory(m) => Stage::Memory(function::pulse(last, m, image)),
+        }
+    }
+
+    #[tactic(auto, unfolding(crate::specs::Event::reply_of))]
+    fn reply(self, event: Event) -> bool
+        ensures { result ≡ reply_of self.stage event self.number }
+    {
+        match event {
+            Event::Reset => false,
+            Event::Slot(bit) => bit && self.bit(),
+            Event::Pulse | Event::PowerLoss => true,
+        }
+    }
+
+    #[tactic(auto, unfolding(crate::specs::Event::image_after, crate::specs::Event::stage_after))]
+    fn advance(self, last: Page, event: Event, image: &mut [u8]) -> Stage
+        ensures image { image.new ≡ image_after (page_count last) self.stage event image.old }
+        ensures stage { result ≡ stage_after (page_count last) self.stage event self.number image.new }
+    {
+        match event {
+            Event::Reset => Stage::Rom(RomStage::Command(0, 0)),
+            Event::Slot(bit) => self.slot(&Memory { image, last }, bit),
+            Event::Pulse => self.pulse(last, image),
+            Event::PowerLoss => Stage::Memory(MemoryStage::Silent),
+        }
     }
 }
 
 // What every entry on a chip judges: the image, the stage and what else has a range, and the other buffers' lengths. Refused: 1, 2, 10.
-fn judge(image: &[u8], stage: Stage, ranges: bool, lengths: bool) -> Judged
-    ensures { judged_outcome result ≡ in_order (is_image 64 image.now) (chip_in_range 64 stage && ranges) lengths }
+fn judge(image: &[u8], stage: Stage, ranges: bool, lengths: bool) -> Result<(), Refusal>
+    ensures { outcome_of result ≡ in_order (is_image 64 image.now) (chip_in_range 64 stage && ranges) lengths }
 {
-    let last = Page(layout::DS2505);
+    let last = layout::DS2505;
     refusal::in_order(
         layout::is_image(image, last),
-        bits::line(in_range(last, stage), ranges),
+        in_range(last, stage) && ranges,
         lengths,
     )
 }
 
 // One event. Refused: 1, 2; the state is then the same and the image untouched.
-pub fn event(state: State, event: Event, image: &mut [u8]) -> Stepped
-    ensures answer { event_outcome result.answer ≡ event_answer 64 state event image.old }
+#[tactic(auto, unfolding(crate::specs::Event::event_answer, crate::specs::Event::event_state, crate::specs::Event::event_image))]
+pub fn event(state: State, event: Event, image: &mut [u8]) -> Stepped<Result<bool, Refusal>, State>
+    ensures answer { outcome_of result.answer ≡ event_answer 64 state event image.old }
     ensures state { result.state ≡ event_state 64 state event image.old }
     ensures image { image.new ≡ event_image 64 state event image.old }
 {
-    let stage = state.stage;
-    let number = state.number;
-    match judge(image, stage, true, true) {
-        Judged::Refused(r) => Stepped {
-            answer: Answer::Refused(r),
+    if let Err(r) = judge(image, state.stage, true, true) {
+        return Stepped {
+            answer: Err(r),
             state,
-        },
-        Judged::Accepted => {
-            let bit = reply(stage, event, number);
-            let next = advance(Page(layout::DS2505), stage, event, number, image);
-            Stepped {
-                answer: Answer::Reply(bit),
-                state: State {
-                    stage: next,
-                    number,
-                },
-            }
-        }
+        };
+    }
+    let bit = state.reply(event);
+    let stage = state.advance(layout::DS2505, event, image);
+    Stepped {
+        answer: Ok(bit),
+        state: State { stage, ..state },
     }
 }
 
-// ---- several events, a byte each
-
-#[derive(Clone, Copy)]
-pub struct Ran {
-    pub answer: Judged,
-    pub state: State,
+// The line that an event drew; a refused event drew none, and the line is then 1.
+pub fn line_of(answer: Result<bool, Refusal>) -> bool
+    ensures { result ≡ line_of (outcome_of answer) }
+{
+    answer.unwrap_or(true)
 }
+
+// ---- several events, a byte each
 
 // All bytes are those of events.
 pub fn are_events(codes: &[u8]) -> bool
     ensures { result ≡ are_events codes.now }
 {
-    for i in 0..codes.len() {
-        if !bus_events::is_event(codes[i]) {
-            return false;
-        }
-    }
-    true
+    codes.iter().all(|code| bus_events::is_event(*code))
 }
 
 // The events one after the other. A stage within its ranges stays within them, so that nothing is judged again.
-fn run_within(
-    start: Stage,
-    number: [u8; 8],
+// The replies are written by number, since the check knows nothing of what a zip wrote.
+fn run_within(start: State, codes: &[u8], image: &mut [u8], replies: &mut [u8]) -> State
+    requires image_value { is_image 64 image.old ≡ true }
+    requires start_value { chip_in_range 64 start.stage ≡ true }
+    requires replies_len { length replies.old ≡ length codes.now }
+    ensures chip { record { state = result; image = image.new } ≡ run 64 (record { state = start; image = image.old }) (events_at codes.now) }
+    ensures replies { replies.new ≡ reply_bytes 64 (record { state = start; image = image.old }) codes.now }
+{
+    let mut state = start;
+    for (i, code) in codes.iter().enumerate() {
+        let e = Event::from(*code);
+        replies[i] = u8::from(state.reply(e));
+        state.stage = state.advance(layout::DS2505, e, image);
+    }
+    state
+}
+
+// So many events, a byte each (Event::from), with a byte for each reply. Refused: 1, 2, 10; state, image and replies are then untouched.
+// The state and the image are judged once: what it does is what the events one by one do.
+#[tactic(auto, unfolding(crate::specs::Run::run_answer, crate::specs::Run::ran_chip, crate::specs::Run::ran_replies))]
+pub fn run(
+    state: State,
     codes: &[u8],
     image: &mut [u8],
     replies: &mut [u8],
-) -> Stage
-    requires image_value { is_image 64 image.old ≡ true }
-    requires start_value { chip_in_range 64 start ≡ true }
-    requires replies_len { length replies.old ≡ length codes.now }
-    ensures chip { chip_with result number image.new ≡ run 64 (chip_with start number image.old) (events_at codes.now) }
-    ensures replies { replies.new ≡ reply_bytes 64 (chip_with start number image.old) codes.now }
-{
-    let mut stage = start;
-    let mut i = 0;
-    while i < codes.len() {
-        let e = bus_events::event_of(codes[i]);
-        replies[i] = bits::byte(reply(stage, e, number));
-        stage = advance(Page(layout::DS2505), stage, e, number, image);
-        i += 1;
-    }
-    stage
-}
-
-// So many events, a byte each (bus_events::event_of), with a byte for each reply. Refused: 1, 2, 10; state, image and replies are then untouched.
-// The state and the image are judged once: what it does is what the events one by one do.
-pub fn run(state: State, codes: &[u8], image: &mut [u8], replies: &mut [u8]) -> Ran
-    ensures answer { judged_outcome result.answer ≡ run_answer 64 state codes.now image.old replies.old }
+) -> Stepped<Result<(), Refusal>, State>
+    ensures answer { outcome_of result.answer ≡ run_answer 64 state codes.now image.old replies.old }
     ensures state { result.state ≡ (ran_chip 64 state codes.now image.old replies.old).state }
     ensures image { image.new ≡ (ran_chip 64 state codes.now image.old replies.old).image }
     ensures replies { replies.new ≡ ran_replies 64 state codes.now image.old replies.old }
 {
-    let stage = state.stage;
-    let number = state.number;
-    match judge(
+    let judged = judge(
         image,
-        stage,
+        state.stage,
         are_events(codes),
         replies.len() == codes.len(),
-    ) {
-        Judged::Refused(r) => Ran {
-            answer: Judged::Refused(r),
+    );
+    if let Err(r) = judged {
+        return Stepped {
+            answer: Err(r),
             state,
-        },
-        Judged::Accepted => {
-            let next = run_within(stage, number, codes, image, replies);
-            Ran {
-                answer: Judged::Accepted,
-                state: State {
-                    stage: next,
-                    number,
-                },
-            }
-        }
+        };
+    }
+    Stepped {
+        answer: Ok(()),
+        state: run_within(state, codes, image, replies),
     }
 }

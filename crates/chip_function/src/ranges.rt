@@ -7,31 +7,31 @@ use base_types::address::{Page, Space};
 use chip_stage::limits;
 use chip_stage::stage::{Incoming, MemoryStage, Outgoing};
 
+#[tactic(auto, unfolding(crate::specs::Ranges::incoming_in_range))]
 fn incoming_in_range(last: Page, i: Incoming) -> bool
     ensures { result ≡ incoming_in_range (page_count last) i }
 {
     match i {
-        Incoming::Command => true,
-        Incoming::AddressLow(_) => true,
-        Incoming::AddressHigh(_, _) => true,
+        Incoming::Command | Incoming::AddressLow(_) | Incoming::AddressHigh(..) => true,
         Incoming::Data(_, t) => limits::target_in_range(last, t),
     }
 }
 
+#[tactic(auto, unfolding(crate::specs::Ranges::outgoing_in_range))]
 fn outgoing_in_range(last: Page, o: Outgoing) -> bool
     ensures { result ≡ outgoing_in_range (page_count last) o }
 {
     match o {
-        Outgoing::MemoryData(a) => limits::is_address(last, Space::Data, a.0),
         Outgoing::MemoryCrc => true,
-        Outgoing::StatusData(a) => limits::is_address(last, Space::Status, a.0),
-        Outgoing::StatusCrc(a) => limits::is_address(last, Space::Status, a.0),
-        Outgoing::RedirectionByte(a) => limits::is_address(last, Space::Data, a.0),
-        Outgoing::RedirectionCrc(a) => limits::is_address(last, Space::Data, a.0),
-        Outgoing::PageData(a) => limits::is_address(last, Space::Data, a.0),
-        Outgoing::PageCrc(a) => limits::is_address(last, Space::Data, a.0),
-        Outgoing::WriteCrc(t, _) => limits::target_in_range(last, t),
-        Outgoing::ReadBack(_, t) => limits::target_in_range(last, t),
+        Outgoing::MemoryData(a)
+        | Outgoing::RedirectionByte(a)
+        | Outgoing::RedirectionCrc(a)
+        | Outgoing::PageData(a)
+        | Outgoing::PageCrc(a) => limits::is_address(last, Space::Data, a.0),
+        Outgoing::StatusData(a) | Outgoing::StatusCrc(a) => {
+            limits::is_address(last, Space::Status, a.0)
+        }
+        Outgoing::WriteCrc(t, _) | Outgoing::ReadBack(_, t) => limits::target_in_range(last, t),
     }
 }
 
@@ -40,41 +40,34 @@ fn width(o: Outgoing) -> u8
     ensures { result ≡ outgoing_width o }
 {
     match o {
-        Outgoing::MemoryData(_) => 8,
-        Outgoing::MemoryCrc => 16,
-        Outgoing::StatusData(_) => 8,
-        Outgoing::StatusCrc(_) => 16,
-        Outgoing::RedirectionByte(_) => 8,
-        Outgoing::RedirectionCrc(_) => 16,
-        Outgoing::PageData(_) => 8,
-        Outgoing::PageCrc(_) => 16,
-        Outgoing::WriteCrc(_, _) => 16,
-        Outgoing::ReadBack(_, _) => 8,
+        Outgoing::MemoryData(_)
+        | Outgoing::StatusData(_)
+        | Outgoing::RedirectionByte(_)
+        | Outgoing::PageData(_)
+        | Outgoing::ReadBack(..) => 8,
+        Outgoing::MemoryCrc
+        | Outgoing::StatusCrc(_)
+        | Outgoing::RedirectionCrc(_)
+        | Outgoing::PageCrc(_)
+        | Outgoing::WriteCrc(..) => 16,
     }
 }
 
+#[tactic(auto, unfolding(crate::specs::Ranges::receiving_in_range))]
 fn receive_in_range(last: Page, i: Incoming, k: u8) -> bool
     ensures { result ≡ receiving_in_range (page_count last) i k }
 {
-    if k < 8 {
-        incoming_in_range(last, i)
-    } else {
-        false
-    }
+    k < 8 && incoming_in_range(last, i)
 }
 
+#[tactic(auto, unfolding(crate::specs::Ranges::send_in_range))]
 fn send_in_range(last: Page, o: Outgoing, left: u8) -> bool
     ensures { result ≡ send_in_range (page_count last) o left }
 {
-    if left < 1 {
-        return false;
-    }
-    if width(o) < left {
-        return false;
-    }
-    outgoing_in_range(last, o)
+    (1..=width(o)).contains(&left) && outgoing_in_range(last, o)
 }
 
+#[tactic(auto, unfolding(crate::specs::Ranges::memory_in_range))]
 pub fn in_range(last: Page, stage: MemoryStage) -> bool
     ensures { result ≡ memory_in_range (page_count last) stage }
 {

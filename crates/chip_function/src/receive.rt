@@ -1,21 +1,25 @@
 // Bits that come in.
 ghost use Rattle.std.specs.Prelude.{◌≡◌, ◌+◌, ◌*◌};
-ghost use Rattle.chip_memory.specs.Layout.{page_count};
+ghost use Rattle.chip_memory.specs.Memory.{bytes, pages};
 ghost use Rattle.chip_function.specs.Functions.{beginning, memory_command, addressed, started_at, received, receive_bit};
 
-use base_types::address::{Page, Space};
+use base_crc::crc16;
+use base_types::address::Space;
 use base_types::write_mode::WriteMode;
+use chip_memory::image::Memory;
 use chip_stage::stage::{Command, Incoming, MemoryStage};
 use chip_stage::{limits, read, stage, write};
 
 // A command that takes an address; its CRC starts cleared.
+#[tactic(auto, unfolding(crate::specs::Functions::beginning))]
 fn begin(c: Command, byte: u8) -> MemoryStage
     ensures { result ≡ beginning c byte }
 {
-    stage::receive(Incoming::AddressLow(c), base_crc::crc16::byte(0, byte))
+    stage::receive(Incoming::AddressLow(c), crc16::byte(0, byte))
 }
 
 // A whole memory command byte is in.
+#[tactic(auto, unfolding(crate::specs::Functions::memory_command))]
 fn command(byte: u8) -> MemoryStage
     ensures { result ≡ memory_command byte }
 {
@@ -31,63 +35,54 @@ fn command(byte: u8) -> MemoryStage
     }
 }
 
-// An address from its two bytes.
-fn address(low: u8, high: u8) -> u16
-    ensures { result ≡ low + 256 * high }
-{
-    low as u16 + 256 * (high as u16)
-}
-
 // A command and its whole address are in, and the CRC has taken them in.
-fn address_in(last: Page, c: Command, a: u16, crc: u16, image: &[u8]) -> MemoryStage
-    ensures { result ≡ addressed (page_count last) c a crc image.now }
+#[tactic(auto, unfolding(crate::specs::Functions::addressed))]
+fn address_in(memory: &Memory, c: Command, a: u16, crc: u16) -> MemoryStage
+    ensures { result ≡ addressed (pages memory.now) c a crc (bytes memory.now) }
 {
     match c {
-        Command::ReadMemory => read::start_memory(last, a, crc, image),
-        Command::ReadStatus => read::start_status(last, a, crc, image),
-        Command::ExtendedRead => read::start_extended(last, a, crc, image),
-        Command::Write(mode, space) => write::start_write(last, mode, space, a, crc),
+        Command::ReadMemory => read::start_memory(memory, a, crc),
+        Command::ReadStatus => read::start_status(memory, a, crc),
+        Command::ExtendedRead => read::start_extended(memory, a, crc),
+        Command::Write(mode, space) => write::start_write(memory.last, mode, space, a, crc),
     }
 }
 
 // A command starts at the address as the chip keeps it, and the CRC takes in the high byte as kept, not as sent.
-fn start_at(last: Page, c: Command, a: u16, crc: u16, image: &[u8]) -> MemoryStage
-    ensures { result ≡ started_at (page_count last) c a crc image.now }
+#[tactic(auto, unfolding(crate::specs::Functions::started_at))]
+fn start_at(memory: &Memory, c: Command, a: u16, crc: u16) -> MemoryStage
+    ensures { result ≡ started_at (pages memory.now) c a crc (bytes memory.now) }
 {
-    let kept = limits::kept(last, a);
-    address_in(
-        last,
-        c,
-        kept,
-        base_crc::crc16::byte(crc, (kept / 256) as u8),
-        image,
-    )
+    let kept = limits::kept(memory.last, a);
+    let [_, high] = kept.to_le_bytes();
+    address_in(memory, c, kept, crc16::byte(crc, high))
 }
 
 // A whole byte is in.
-fn byte_in(last: Page, i: Incoming, byte: u8, crc: u16, image: &[u8]) -> MemoryStage
-    ensures { result ≡ received (page_count last) i byte crc image.now }
+#[tactic(auto, unfolding(crate::specs::Functions::received))]
+fn byte_in(memory: &Memory, i: Incoming, byte: u8, crc: u16) -> MemoryStage
+    ensures { result ≡ received (pages memory.now) i byte crc (bytes memory.now) }
 {
     match i {
         Incoming::Command => command(byte),
         Incoming::AddressLow(c) => {
-            stage::receive(
-                Incoming::AddressHigh(c, byte),
-                base_crc::crc16::byte(crc, byte),
-            )
+            stage::receive(Incoming::AddressHigh(c, byte), crc16::byte(crc, byte))
         }
-        Incoming::AddressHigh(c, low) => { start_at(last, c, address(low, byte), crc, image) }
+        Incoming::AddressHigh(c, low) => {
+            start_at(memory, c, u16::from_le_bytes([low, byte]), crc)
+        }
         Incoming::Data(mode, t) => write::data_in(mode, t, byte, crc),
     }
 }
 
 // One bit more, after k of them; the register now holds v.
-pub fn bit_in(last: Page, i: Incoming, k: u8, v: u8, crc: u16, image: &[u8]) -> MemoryStage
-    ensures { result ≡ receive_bit (page_count last) i k v crc image.now }
+#[tactic(auto, unfolding(crate::specs::Functions::receive_bit))]
+pub fn bit_in(memory: &Memory, i: Incoming, k: u8, v: u8, crc: u16) -> MemoryStage
+    ensures { result ≡ receive_bit (pages memory.now) i k v crc (bytes memory.now) }
 {
     if k < 7 {
         MemoryStage::Receive(i, k + 1, v, crc)
     } else {
-        byte_in(last, i, v, crc, image)
+        byte_in(memory, i, v, crc)
     }
 }

@@ -8,7 +8,6 @@ use borrow.Author.Tests.{lt-ltb, le-ltb}
 use Rattle.base_types.specs.Bits.{bits_of, bits_of_bytes}
 use Rattle.base_types.specs.declared.address.DataAddress.{DataAddress}
 use Rattle.base_types.specs.declared.address.StatusAddress.{StatusAddress}
-use Rattle.base_types.specs.declared.address.Space.TheVariants.{Status}
 use Rattle.base_types.specs.Scan.{values_from}
 use Rattle.base_crc.specs.Crc.{crc_bytes, crc16_byte, crc16_from, crc16_of}
 use Rattle.base_crc.specs.Polynomial.{crc16_polynomial}

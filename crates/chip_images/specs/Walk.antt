@@ -1,15 +1,9 @@
 -- What the walk from a page tells, over the page count n.
 use Rattle.std.specs.Prelude.{ℕ, List}
-use Rattle.base_types.specs.Outcome.{Outcome, accepted, refusing}
+use Rattle.base_types.specs.Outcome.{Outcome, accepted}
 use Rattle.base_types.specs.declared.verdict.Verdict.{Verdict}
 use Rattle.chip_chain.specs.Walk.{walk_of}
-use Rattle.chip_images.specs.declared.walk.Walked.{Walked}
-use Rattle.chip_images.specs.declared.walk.Walked.TheVariants.{Refused, Ended}
 use Rattle.chip_images.specs.Page.{on_page}
-
-abbrev pub walk_outcome : Walked → Outcome Verdict
-walk_outcome (Refused r) = refusing r
-walk_outcome (Ended v) = accepted v
 
 -- 1, 3, or the verdict
 unfoldable pub walk_answer : ℕ → List ℕ → ℕ → Outcome Verdict

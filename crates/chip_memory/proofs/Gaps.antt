@@ -19,7 +19,7 @@ use Rattle.chip_memory.specs.Image.{status_byte, redirection_of}
 use Rattle.chip_memory.specs.Write.{bit_of, status_writable, is_writable, index_of, programmed}
 
 true_not_false : {A : Type 0} → ◌≡◌ {A = Bool} true false → A
-true_not_false e = absurd (let z : ◌≡◌ {A = ℕ} 0 1 = cc in omega arith)
+true_not_false e = cc
 
 -- ---- the redirection bytes
 
@@ -28,6 +28,7 @@ pub redirection_held : (n a : ℕ) → redirection_bytes ≤ a → a - redirecti
 unfolding is_held is_within
 redirection_held n a le lt = simp (le-ltb a redirection_bytes le, lt-ltb (a - redirection_bytes) n lt)
 
+-- read as a status byte, it is the redirection byte of that page
 pub redirection_status : (n : ℕ) (img : List ℕ) (p : ℕ) → p < n → status_byte n img (redirection_bytes + p) ≡ redirection_of n img p
 unfolding status_byte redirection_of
 redirection_status n img p lt = simp (redirection_held n (redirection_bytes + p) (omega arith) (omega arith))

@@ -1,15 +1,14 @@
--- A page's bytes: the part of the image, the blank test one byte at a time, and the copy one byte at a time.
+-- A page's bytes: the part of the image, the blank test and the copy.
 use Prim.Native.Nat.{ℕ, zero, suc, ◌+◌, ◌-◌, ◌*◌, ◌≤◌, ◌<◌, min}
 use mathlib.Core.Path.{◌≡◌, refl, sym, ap, ◌∙◌}
-use mathlib.Core.Bool.{true, false}
-use mathlib.Core.List.{List, [], ◌∷◌}
-use native.Mathlib.Nat.{not-suc-le-zero, le_of_suc-le-suc}
-use native.Mathlib.Numerals.{add-one}
+use mathlib.Core.Bool.{Bool, ◌&&◌}
+use mathlib.Core.List.{List, [], ◌∷◌, ◌++◌}
 use native.Mathlib.Decide.{dec_lt}
 use native.Mathlib.Omega.{arith}
-use lib.ListN.{length, get_or, take, drop, set, length-take, length-drop, drop_of_length-le}
-use lib.Seq.{drop-cons, take_all, take-length, take-nil}
-use borrow.Author.Tests.{eq-eqb, ne_eqb}
+use lib.Dec.{eqb}
+use Rattle.std.specs.List.{list_all}
+use lib.ListN.{length, take, drop, length-take, length-drop, drop_of_length-le}
+use lib.Seq.{take_all, take-length, take-nil}
 use Rattle.chip_memory.specs.Image.{page_bytes}
 use Rattle.chip_memory.specs.Layout.{image_size}
 use Rattle.chip_memory.specs.Page.{is_blank, copied}
@@ -44,17 +43,10 @@ page_length n img p e lt = simp (length-take, length-drop) (omega arith)
 
 -- ---- the blank test
 
-pub blank_next : (l : List ℕ) (i : ℕ) → i < length l → get_or l i 0 ≡ 255 → is_blank (drop (i + 1) l) ≡ is_blank (drop i l)
+pub all_blank : (l : List ℕ) → list_all (λ (b : ℕ). eqb b 255) l ≡ is_blank l
 unfolding is_blank
-blank_next l i lt e = rw (add-one, drop-cons l i 0, eq-eqb _ _ e)
-
-pub blank_not : (l : List ℕ) (i : ℕ) → i < length l → (get_or l i 0 ≡ 255 → ⊥) → false ≡ is_blank (drop i l)
-unfolding is_blank
-blank_not l i lt d = rw (drop-cons l i 0, ne_eqb _ _ d)
-
-pub blank_end : (l : List ℕ) (i : ℕ) → length l ≤ i → true ≡ is_blank (drop i l)
-unfolding is_blank
-blank_end l i le = rw drop_of_length-le
+all_blank [] = refl
+all_blank (b ∷ l) = ap (λ (t : Bool). eqb b 255 && t) (all_blank l)
 
 -- ---- the copy
 
@@ -65,25 +57,15 @@ copied_length [] old = refl
 copied_length (b ∷ l) [] = refl
 copied_length (b ∷ l) (o ∷ old) = ap suc (copied_length l old)
 
-pub copied_none : (l old : List ℕ) → old ≡ copied (take 0 l) old
+-- the bytes up to the end of the shorter one, and the rest of the buffer
+pub copied_parts : (l old : List ℕ) (e : ℕ) → e ≡ min (length l) (length old) → take e l ++ drop e old ≡ copied l old
 unfolding copied
-copied_none [] old = refl
-copied_none (b ∷ l) old = refl
-
-pub copied_next : (l old : List ℕ) (i : ℕ) → i < length l → i < length old → set (copied (take i l) old) i (get_or l i 0) ≡ copied (take (suc i) l) old
-unfolding copied
-copied_next [] old i lt lo = absurd (not-suc-le-zero lt)
-copied_next (b ∷ l) [] i lt lo = absurd (not-suc-le-zero lo)
-copied_next (b ∷ l) (o ∷ old) zero lt lo = ap (λ (x : List ℕ). b ∷ x) (copied_none l old)
-copied_next (b ∷ l) (o ∷ old) (suc i) lt lo = ap (λ (x : List ℕ). b ∷ x) (copied_next l old i (le_of_suc-le-suc lt) (le_of_suc-le-suc lo))
-
-pub copied_all : (l old : List ℕ) (e : ℕ) → e ≡ min (length l) (length old) → copied (take e l) old ≡ copied l old
-unfolding copied
-copied_all [] old e h = ap (λ (x : List ℕ). copied x old) (take-nil e)
-copied_all (b ∷ l) [] zero h = refl
-copied_all (b ∷ l) [] (suc e) h = refl
-copied_all (b ∷ l) (o ∷ old) zero h = absurd (omega arith)
-copied_all (b ∷ l) (o ∷ old) (suc e) h = ap (λ (x : List ℕ). b ∷ x) (copied_all l old e (omega arith))
+copied_parts [] old zero h = refl
+copied_parts [] old (suc e) h = absurd (omega arith)
+copied_parts (b ∷ l) [] zero h = refl
+copied_parts (b ∷ l) [] (suc e) h = absurd (omega arith)
+copied_parts (b ∷ l) (o ∷ old) zero h = absurd (omega arith)
+copied_parts (b ∷ l) (o ∷ old) (suc e) h = ap (λ (x : List ℕ). b ∷ x) (copied_parts l old e (omega arith))
 
 -- over a buffer of the same length a copy is the page
 pub copied_same : (l old : List ℕ) → length l ≡ length old → copied l old ≡ l

@@ -1,12 +1,10 @@
 -- What the tests of sizes say: an image is as long as it should be, a page is at most the last one; and where the fields of bits lie.
-use Prim.Native.Nat.{ℕ, ◌+◌, ◌≤◌, ◌<◌}
-use mathlib.Core.Path.{◌≡◌, sym, ◌∙◌}
-use native.Mathlib.Decide.{dec_lt}
-use lib.Dec.{leb, ltb}
+use Prim.Native.Nat.{ℕ, ◌≤◌, ◌<◌}
+use mathlib.Core.Path.{◌≡◌}
 use lib.ListN.{length}
 use mathlib.Core.Bool.{true}
 use mathlib.Core.List.{List}
-use borrow.Author.Tests.{eqb-true, ltb-true, le-leb, lt-leb, lt-ltb, le-ltb}
+use borrow.Author.Tests.{eqb-true, ltb-true}
 use native.Mathlib.Omega.{arith}
 use Rattle.chip_memory.specs.declared.layout.Field.{Field}
 use Rattle.chip_memory.specs.declared.layout.Field.TheVariants.{DataProtection, RedirectionProtection, UsedPages}
@@ -25,11 +23,3 @@ unfolding first_address
 first_low DataProtection = omega arith
 first_low RedirectionProtection = omega arith
 first_low UsedPages = omega arith
-
--- at most the last page, or below the page count
-pub leb_ltb : (p last : ℕ) → leb p last ≡ ltb p (last + 1)
-leb_ltb p last = go (dec_lt p (last + 1))
-  where
-    go : Dec (p < last + 1) → leb p last ≡ ltb p (last + 1)
-    go (yes lt) = le-leb p last (omega arith) ∙ sym (lt-ltb p (last + 1) lt)
-    go (no ge) = lt-leb p last (omega arith) ∙ sym (le-ltb p (last + 1) (omega arith))

@@ -1,4 +1,5 @@
-pub mod Layout
 pub mod Image
+pub mod Layout
+pub mod Memory
 pub mod Page
 pub mod Write

@@ -1,10 +1,11 @@
 // The bytes of an image, by their addresses.
-ghost use Rattle.std.specs.Prelude.{◌≡◌, get_or};
-ghost use Rattle.chip_memory.specs.Layout.{page_count};
-ghost use Rattle.chip_memory.specs.Image.{data_byte, status_byte, target_byte, page_bit, redirection_of};
+ghost use Rattle.std.specs.Prelude.{◌≡◌, ◌≤◌, get_or};
+ghost use Rattle.chip_memory.specs.Image.{data_byte, status_byte, target_byte, page_bit, redirection_of, page_bytes};
+ghost use Rattle.chip_memory.specs.Layout.{page_count, data_size};
+ghost use Rattle.chip_memory.specs.Memory.{bytes, pages};
 
-use crate::layout;
 use crate::layout::Field;
+use crate::{layout, page};
 use base_types::address::{DataAddress, Page, Redirection, StatusAddress, Target};
 use base_types::bits;
 
@@ -12,54 +13,92 @@ use base_types::bits;
 pub fn byte_at(image: &[u8], i: usize) -> u8
     ensures { result ≡ get_or image.now i 0 }
 {
-    if i < image.len() { image[i] } else { 0 }
+    image.get(i).copied().unwrap_or(0)
 }
 
-// The byte of a data address.
-pub fn data_byte(image: &[u8], last: Page, a: DataAddress) -> u8
-    ensures { result ≡ data_byte (page_count last) image.now a.0 }
-{
-    let i = a.0 as usize;
-    if i < layout::data_size(last) {
-        byte_at(image, i)
-    } else {
-        0xFF
+// An image with the chip that it is of, which is known by its last page. It is lent, so that a clause reads it through a reference.
+#[derive(Clone, Copy)]
+pub struct Memory<'a> {
+    pub image: &'a [u8],
+    pub last: Page,
+}
+
+impl<'a> Memory<'a> {
+    // How many pages: at most 256, since a page's number is a byte.
+    pub fn page_count(&self) -> usize
+        ensures is { result ≡ pages self.now }
+        ensures bound { result ≤ 256 }
+    {
+        let Page(last) = self.last;
+        layout::page_count(Page(last))
     }
-}
 
-// The byte of a status address. A gap reads FFh.
-pub fn status_byte(image: &[u8], last: Page, a: StatusAddress) -> u8
-    ensures { result ≡ status_byte (page_count last) image.now a.0 }
-{
-    if layout::is_held(last, a) {
-        byte_at(image, layout::status_index(last, a))
-    } else {
-        0xFF
+    // How many data bytes.
+    pub fn data_size(&self) -> usize
+        ensures is { result ≡ data_size (pages self.now) }
+        ensures bound { result ≤ 8192 }
+    {
+        32 * self.page_count()
     }
-}
 
-// The byte of either kind of address.
-pub fn target_byte(image: &[u8], last: Page, t: Target) -> u8
-    ensures { result ≡ target_byte (page_count last) image.now t }
-{
-    match t {
-        Target::Data(a) => data_byte(image, last, a),
-        Target::Status(a) => status_byte(image, last, a),
+    // The byte of a data address.
+    #[tactic(auto, unfolding(crate::specs::Image::data_byte))]
+    pub fn data_byte(&self, a: DataAddress) -> u8
+        ensures { result ≡ data_byte (pages self.now) (bytes self.now) a.0 }
+    {
+        let i = a.0 as usize;
+        if i < self.data_size() {
+            byte_at(self.image, i)
+        } else {
+            0xFF
+        }
     }
-}
 
-// The bit of a page in a field of bits: bit p modulo 8 of byte p divided by 8.
-pub fn page_bit(image: &[u8], last: Page, field: Field, p: Page) -> bool
-    ensures { result ≡ page_bit (page_count last) field image.now p.0 }
-{
-    let a = StatusAddress(layout::first_address(field) + (p.0 >> 3) as u16);
-    bits::at(byte_at(image, layout::status_index(last, a)), p.0)
-}
+    // The byte of a status address. A gap reads FFh.
+    #[tactic(auto, unfolding(crate::specs::Image::status_byte))]
+    pub fn status_byte(&self, a: StatusAddress) -> u8
+        ensures { result ≡ status_byte (pages self.now) (bytes self.now) a.0 }
+    {
+        if layout::is_held(self.last, a) {
+            byte_at(self.image, layout::status_index(self.last, a))
+        } else {
+            0xFF
+        }
+    }
 
-// The redirection byte of a page.
-pub fn redirection_of(image: &[u8], last: Page, p: Page) -> Redirection
-    ensures { result.0 ≡ redirection_of (page_count last) image.now p.0 }
-{
-    let a = StatusAddress(layout::REDIRECTION_BYTES + p.0 as u16);
-    Redirection(byte_at(image, layout::status_index(last, a)))
+    // The byte of either kind of address.
+    #[tactic(auto, unfolding(crate::specs::Image::target_byte))]
+    pub fn target_byte(&self, t: Target) -> u8
+        ensures { result ≡ target_byte (pages self.now) (bytes self.now) t }
+    {
+        match t {
+            Target::Data(a) => self.data_byte(a),
+            Target::Status(a) => self.status_byte(a),
+        }
+    }
+
+    // The bit of a page in a field of bits: bit p modulo 8 of byte p divided by 8.
+    #[tactic(auto, unfolding(crate::specs::Image::page_bit, crate::specs::Layout::first_address))]
+    pub fn page_bit(&self, field: Field, p: Page) -> bool
+        ensures { result ≡ page_bit (pages self.now) field (bytes self.now) p.0 }
+    {
+        let a = StatusAddress(layout::first_address(field) + (p.0 >> 3) as u16);
+        bits::at(byte_at(self.image, layout::status_index(self.last, a)), p.0)
+    }
+
+    // The redirection byte of a page.
+    #[tactic(auto, unfolding(crate::specs::Image::redirection_of))]
+    pub fn redirection_of(&self, p: Page) -> Redirection
+        ensures { result.0 ≡ redirection_of (pages self.now) (bytes self.now) p.0 }
+    {
+        let a = StatusAddress(layout::REDIRECTION_BYTES + p.0 as u16);
+        Redirection(byte_at(self.image, layout::status_index(self.last, a)))
+    }
+
+    // A page's own 32 bytes.
+    pub fn page(&self, p: Page) -> &'a [u8]
+        ensures { result.now ≡ page_bytes (bytes self.now) p.0 }
+    {
+        page::part(self.image, p)
+    }
 }

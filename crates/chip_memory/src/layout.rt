@@ -5,7 +5,7 @@ ghost use Rattle.chip_memory.specs.Layout.{first_address, page_count, data_size,
 use base_types::address::{Page, StatusAddress};
 
 // The last page of a DS2505.
-pub const DS2505: u8 = 63;
+pub const DS2505: Page = Page(63);
 
 // The status address of page 0's redirection byte.
 pub const REDIRECTION_BYTES: u16 = 0x100;
@@ -19,6 +19,7 @@ pub enum Field {
 }
 
 // The first status address of a field of bits.
+#[tactic(auto, unfolding(crate::specs::Layout::first_address))]
 pub fn first_address(field: Field) -> u16
     ensures { result ≡ first_address field }
 {
@@ -58,6 +59,7 @@ pub fn image_size(last: Page) -> usize
 }
 
 // A slice is as long as an image.
+#[tactic(auto, unfolding(crate::specs::Layout::is_image))]
 pub fn is_image(image: &[u8], last: Page) -> bool
     ensures { result ≡ is_image (page_count last) image.now }
 {
@@ -65,10 +67,11 @@ pub fn is_image(image: &[u8], last: Page) -> bool
 }
 
 // A page is one of the chip's.
+#[tactic(auto, unfolding(crate::specs::Layout::is_page))]
 pub fn is_page(last: Page, page: Page) -> bool
     ensures { result ≡ is_page (page_count last) page.0 }
 {
-    page.0 <= last.0
+    page <= last
 }
 
 // Where the byte of a status address stands in the image.
@@ -79,13 +82,11 @@ pub fn status_index(last: Page, a: StatusAddress) -> usize
 }
 
 // An address is one of the size addresses from first on.
+#[tactic(auto, unfolding(crate::specs::Layout::is_within))]
 fn within(first: u16, size: u16, a: u16) -> bool
     ensures { result ≡ is_within first size a }
 {
-    if a < first {
-        return false;
-    }
-    a - first < size
+    first <= a && a - first < size
 }
 
 // An address lies in a field of bits.
@@ -96,18 +97,13 @@ fn in_field(last: Page, field: Field, a: u16) -> bool
 }
 
 // A status address holds something; the others are gaps.
+#[tactic(auto, unfolding(crate::specs::Layout::is_held))]
 pub fn is_held(last: Page, a: StatusAddress) -> bool
     ensures { result ≡ is_held (page_count last) a.0 }
 {
     let x = a.0;
-    if within(REDIRECTION_BYTES, last.0 as u16 + 1, x) {
-        return true;
-    }
-    if in_field(last, Field::DataProtection, x) {
-        return true;
-    }
-    if in_field(last, Field::RedirectionProtection, x) {
-        return true;
-    }
-    in_field(last, Field::UsedPages, x)
+    within(REDIRECTION_BYTES, last.0 as u16 + 1, x)
+        || in_field(last, Field::DataProtection, x)
+        || in_field(last, Field::RedirectionProtection, x)
+        || in_field(last, Field::UsedPages, x)
 }

@@ -1,24 +1,17 @@
 // A page is handed on as its own 32 bytes of the image.
-ghost use Rattle.std.specs.Prelude.{◌≡◌, min, length};
+ghost use Rattle.std.specs.Prelude.{◌≡◌};
 ghost use Rattle.chip_memory.specs.Image.{page_bytes};
 ghost use Rattle.chip_memory.specs.Page.{is_blank, copied};
 ghost use Rattle.base_crc.specs.Crc.{crc16_of};
 
 use base_types::address::Page;
 
-// The lesser of two numbers.
-fn lesser(a: usize, b: usize) -> usize
-    ensures { result ≡ min a b }
-{
-    if a < b { a } else { b }
-}
-
 // The part of the image from 32p to 32p + 32.
 pub fn part(image: &[u8], p: Page) -> &[u8]
     ensures { result.now ≡ page_bytes image.now p.0 }
 {
-    let start = lesser(32 * (p.0 as usize), image.len());
-    let end = lesser(start + 32, image.len());
+    let start = (32 * p.0 as usize).min(image.len());
+    let end = (start + 32).min(image.len());
     &image[start..end]
 }
 
@@ -26,12 +19,7 @@ pub fn part(image: &[u8], p: Page) -> &[u8]
 pub fn is_blank(page: &[u8]) -> bool
     ensures { result ≡ is_blank page.now }
 {
-    for i in 0..page.len() {
-        if page[i] != 0xFF {
-            return false;
-        }
-    }
-    true
+    page.iter().all(|b| *b == 0xFF)
 }
 
 // The CRC-16 of a page's bytes.
@@ -45,10 +33,6 @@ pub fn crc(page: &[u8]) -> u16
 pub fn copy(page: &[u8], buffer: &mut [u8])
     ensures { buffer.new ≡ copied page.now buffer.old }
 {
-    let end = lesser(page.len(), buffer.len());
-    let mut i = 0;
-    while i < end {
-        buffer[i] = page[i];
-        i += 1;
-    }
+    let end = page.len().min(buffer.len());
+    buffer[..end].copy_from_slice(&page[..end]);
 }

@@ -7,7 +7,7 @@ ghost use Rattle.chip_rom.specs.Rom.{number_bit, rom_command, rom_command_bit, n
 use base_types::bits;
 
 // What a chip does at a bit of its number.
-#[derive(Clone, Copy)]
+#[derive(Clone, Copy, Debug, PartialEq, Eq)]
 pub enum RomStep {
     Read,
     Match,
@@ -18,14 +18,14 @@ pub enum RomStep {
 
 // Where a chip stands between a reset and the end of its ROM command: so many bits of the command byte are in the register; or a step
 // at a bit of the number.
-#[derive(Clone, Copy)]
+#[derive(Clone, Copy, Debug, PartialEq, Eq)]
 pub enum RomStage {
     Command(u8, u8),
     Number(RomStep, u8),
 }
 
 // What a slot leads to: another stage, the memory functions, or silence.
-#[derive(Clone, Copy)]
+#[derive(Clone, Copy, Debug, PartialEq, Eq)]
 pub enum RomOutcome {
     Stays(RomStage),
     Selected,
@@ -33,18 +33,17 @@ pub enum RomOutcome {
 }
 
 // Bit i of the registration number.
+#[tactic(auto, unfolding(crate::specs::Rom::number_bit))]
 pub fn number_bit(number: [u8; 8], i: u8) -> bool
     ensures { result ≡ number_bit number i }
 {
-    let at = (i >> 3) as usize;
-    if at < 8 {
-        bits::at(number[at], i)
-    } else {
-        false
-    }
+    number
+        .get(usize::from(i >> 3))
+        .is_some_and(|byte| bits::at(*byte, i))
 }
 
 // A whole ROM command byte is in.
+#[tactic(auto, unfolding(crate::specs::Rom::rom_command))]
 fn command(byte: u8) -> RomOutcome
     ensures { result ≡ rom_command byte }
 {
@@ -58,6 +57,7 @@ fn command(byte: u8) -> RomOutcome
 }
 
 // One bit more of the command byte, of which k were in; the register now holds v.
+#[tactic(auto, unfolding(crate::specs::Rom::rom_command_bit))]
 fn command_bit(k: u8, v: u8) -> RomOutcome
     ensures { result ≡ rom_command_bit k v }
 {
@@ -69,6 +69,7 @@ fn command_bit(k: u8, v: u8) -> RomOutcome
 }
 
 // Bit i of the number is done: the step at the next one, or the memory functions.
+#[tactic(auto, unfolding(crate::specs::Rom::next_of))]
 fn next(step: RomStep, i: u8) -> RomOutcome
     ensures { result ≡ next_of step i }
 {
@@ -80,6 +81,7 @@ fn next(step: RomStep, i: u8) -> RomOutcome
 }
 
 // The master's bit at bit i, which has to agree with the number's.
+#[tactic(auto, unfolding(crate::specs::Rom::taken_of))]
 fn taken(agrees: bool, step: RomStep, i: u8) -> RomOutcome
     ensures { result ≡ taken_of agrees step i }
 {
@@ -91,25 +93,21 @@ fn taken(agrees: bool, step: RomStep, i: u8) -> RomOutcome
 }
 
 // One slot at bit i of the number.
+#[tactic(auto, unfolding(crate::specs::Rom::number_slot))]
 fn number_slot(step: RomStep, i: u8, bit: bool, number: [u8; 8]) -> RomOutcome
     ensures { result ≡ number_slot step i bit number }
 {
     match step {
         RomStep::Read => next(RomStep::Read, i),
-        RomStep::Match => taken(bits::agree(bit, number_bit(number, i)), RomStep::Match, i),
+        RomStep::Match => taken(bit == number_bit(number, i), RomStep::Match, i),
         RomStep::SearchBit => RomOutcome::Stays(RomStage::Number(RomStep::SearchComplement, i)),
         RomStep::SearchComplement => RomOutcome::Stays(RomStage::Number(RomStep::SearchTake, i)),
-        RomStep::SearchTake => {
-            taken(
-                bits::agree(bit, number_bit(number, i)),
-                RomStep::SearchBit,
-                i,
-            )
-        }
+        RomStep::SearchTake => taken(bit == number_bit(number, i), RomStep::SearchBit, i),
     }
 }
 
 // One slot.
+#[tactic(auto, unfolding(crate::specs::Rom::rom_slot))]
 pub fn slot(stage: RomStage, bit: bool, number: [u8; 8]) -> RomOutcome
     ensures { result ≡ rom_slot stage bit number }
 {
@@ -124,15 +122,14 @@ fn number_sent(step: RomStep, b: bool) -> bool
     ensures { result ≡ number_sent step b }
 {
     match step {
-        RomStep::Read => b,
-        RomStep::Match => true,
-        RomStep::SearchBit => b,
+        RomStep::Read | RomStep::SearchBit => b,
         RomStep::SearchComplement => !b,
-        RomStep::SearchTake => true,
+        RomStep::Match | RomStep::SearchTake => true,
     }
 }
 
 // The chip's bit in a slot.
+#[tactic(auto, unfolding(crate::specs::Rom::rom_bit))]
 pub fn chip_bit(stage: RomStage, number: [u8; 8]) -> bool
     ensures { result ≡ rom_bit stage number }
 {
@@ -143,6 +140,7 @@ pub fn chip_bit(stage: RomStage, number: [u8; 8]) -> bool
 }
 
 // The fields of a stage are within their ranges.
+#[tactic(auto, unfolding(crate::specs::Rom::rom_in_range))]
 pub fn in_range(stage: RomStage) -> bool
     ensures { result ≡ rom_in_range stage }
 {

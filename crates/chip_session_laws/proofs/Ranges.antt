@@ -1,5 +1,5 @@
 -- The chip's test of a state is the list of its ranges; what is refused with 1 and 2; events leave a state in the list.
-use Prim.Native.Nat.{ℕ, ◌+◌, ◌*◌, ◌%◌, ◌<◌, ◌≤◌}
+use Prim.Native.Nat.{ℕ, ◌%◌, ◌<◌, ◌≤◌}
 use mathlib.Core.Path.{◌≡◌, refl}
 use mathlib.Core.Bool.{Bool, true, false, cond}
 use mathlib.Core.List.{List, []}
@@ -38,15 +38,15 @@ below_means a b = (ltb-true a b, lt-ltb a b)
 -- two tests in a row
 both_mean : {P Q : Type 0} (t x : Bool) → (t ≡ true) ↔ P → (x ≡ true) ↔ Q → (cond t x false ≡ true) ↔ (P × Q)
 both_mean true x p q = (λ h. (p.0 refl, q.0 h), λ h. q.1 h.1)
-both_mean false x p q = (λ h. absurd (let z : ◌≡◌ {A = ℕ} 0 1 = cc in omega arith), λ h. p.1 h.0)
+both_mean false x p q = (λ h. cc, λ h. p.1 h.0)
 
 -- so many bits are left, and a further test
 bits : {Q : Type 0} (left all : ℕ) (x : Bool) → (x ≡ true) ↔ Q → (cond (ltb left 1) false (cond (ltb all left) false x) ≡ true) ↔ (BitsLeft left all × Q)
 bits {Q} left all x q = go (ltb left 1) (ltb all left) refl refl
   where
     go : (s t : Bool) → ltb left 1 ≡ s → ltb all left ≡ t → (cond s false (cond t false x) ≡ true) ↔ (BitsLeft left all × Q)
-    go true t e f = (λ h. absurd (let z : ◌≡◌ {A = ℕ} 0 1 = cc in omega arith), λ h. absurd (let l = ltb-true left 1 e in omega (arith, h.0)))
-    go false true e f = (λ h. absurd (let z : ◌≡◌ {A = ℕ} 0 1 = cc in omega arith), λ h. absurd (let l = ltb-true all left f in omega (arith, h.0)))
+    go true t e f = (λ h. cc, λ h. absurd (let l = ltb-true left 1 e in omega (arith, h.0)))
+    go false true e f = (λ h. cc, λ h. absurd (let l = ltb-true all left f in omega (arith, h.0)))
     go false false e f = (λ h. ((omega (arith, ltb-false left 1 e), omega (arith, ltb-false all left f)), q.0 h), λ h. q.1 h.1)
 
 always : ◌↔◌ {0, 0} (true ≡ true) Unit

@@ -1,14 +1,14 @@
 -- Slots one after the other: through a ROM function, while the chip sends, and while it takes in bytes.
-use Prim.Native.Nat.{ℕ, zero, suc, ◌+◌, ◌*◌, ◌/◌, ◌%◌, ◌<◌}
+use Prim.Native.Nat.{ℕ, zero, suc, ◌+◌, ◌/◌, ◌%◌, ◌<◌}
 use mathlib.Core.Path.{◌≡◌, refl, sym, ap, ap₂, ◌∙◌, subst}
 use mathlib.Core.Bool.{Bool, true, false, ◌&&◌}
-use mathlib.Core.List.{List, [], ◌∷◌, ◌++◌, map}
+use mathlib.Core.List.{List, [], ◌∷◌, map}
 use native.Mathlib.Nat.{add-zero}
 use native.Mathlib.Omega.{arith}
-use lib.ListN.{length, length-append}
+use lib.ListN.{length}
 use borrow.Author.Tests.{lt-ltb}
 use Rattle.base_types.specs.Outcome.{accepted}
-use Rattle.base_types.specs.Bits.{odd, bits_of, bits_of_bytes, shift_in}
+use Rattle.base_types.specs.Bits.{odd, bits_of, shift_in}
 use Rattle.base_types.proofs.Collect.{collect, collected}
 use Rattle.bus_events.specs.declared.Event.{Event}
 use Rattle.bus_events.specs.Slots.{slots, ones, lines}

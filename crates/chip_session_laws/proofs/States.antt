@@ -3,7 +3,6 @@ use Prim.Native.Nat.{ℕ, ◌%◌}
 use mathlib.Core.Path.{◌≡◌, refl, sym, ap, ◌∙◌, subst}
 use mathlib.Core.Bool.{Bool, true, false, ◌&&◌}
 use mathlib.Core.List.{List, [], ◌∷◌}
-use native.Mathlib.Omega.{arith}
 use Rattle.base_types.specs.Outcome.{Outcome, refused, accepted, unless_refused}
 use Rattle.base_types.specs.declared.address.Target.{Target}
 use Rattle.base_types.specs.declared.write_mode.WriteMode.{WriteMode}
@@ -51,7 +50,7 @@ module _ (n : ℕ) where
   unarmed (Memory Silent) img h = refl
   unarmed (Memory (Receive i k register crc)) img h = refl
   unarmed (Memory (Send o left v crc)) img h = refl
-  unarmed (Memory (Armed mode t byte)) img h = absurd (let z : ◌≡◌ {A = ℕ} 0 1 = cc in omega arith)
+  unarmed (Memory (Armed mode t byte)) img h = cc
 
   same_image : (s : Stage) (e : Event) (img : List ℕ) → (is_pulse e && is_armed s) ≡ false → image_after n s e img ≡ img
   unfolding image_after
@@ -90,7 +89,7 @@ module _ (n : ℕ) where
   idle (Memory Silent) img h = refl
   idle (Memory (Receive i k register crc)) img h = refl
   idle (Memory (Send o left v crc)) img h = refl
-  idle (Memory (Armed mode t byte)) img h = absurd (let z : ◌≡◌ {A = ℕ} 0 1 = cc in omega arith)
+  idle (Memory (Armed mode t byte)) img h = cc
 
   pub idle_pulse : (c : Chip) → Ready n c → is_armed c.state.stage ≡ false → Reaches n c (pulse ∷ []) (true ∷ []) c
   unfolding reply_of stage_after image_after
@@ -103,7 +102,7 @@ module _ (n : ℕ) where
 
   pub silent_stays : (c : Chip) (e : Event) → Ready n (c at silent) → is_reset e ≡ false → Reaches n (c at silent) (e ∷ []) (silent_reply e ∷ []) (c at silent)
   unfolding reply_of stage_bit memory_bit stage_after stage_slot memory_slot image_after pulse_image_of pulse_image stage_pulse pulse_stage
-  silent_stays c Reset ok h = absurd (let z : ◌≡◌ {A = ℕ} 0 1 = cc in omega arith)
+  silent_stays c Reset ok h = cc
   silent_stays c (Slot bit) ok h = rw (and_with_true bit) at (event n (c at silent) ok (slot bit))
   silent_stays c Pulse ok h = event n (c at silent) ok pulse
   silent_stays c PowerLoss ok h = event n (c at silent) ok power_loss

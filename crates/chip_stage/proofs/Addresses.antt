@@ -1,5 +1,5 @@
 -- Addresses of either memory fit sixteen bits.
-use Prim.Native.Nat.{ℕ, ◌+◌, ◌≤◌}
+use Prim.Native.Nat.{ℕ, ◌≤◌}
 use native.Mathlib.Omega.{arith}
 use Rattle.base_types.specs.declared.address.Space.{Space}
 use Rattle.base_types.specs.declared.address.Space.TheVariants.{Data, Status}

@@ -1,5 +1,5 @@
 -- The addresses of each memory, over the page count n.
-use Rattle.std.specs.Prelude.{ℕ, ◌%◌, ◌^◌, Bool, cond, ltb}
+use Rattle.std.specs.Prelude.{ℕ, ◌+◌, ◌%◌, ◌^◌, Bool, cond, Option, Some, None, ltb}
 use Rattle.base_types.specs.declared.address.Space.{Space}
 use Rattle.base_types.specs.declared.address.Space.TheVariants.{Data, Status}
 use Rattle.base_types.specs.declared.address.Target.{Target}
@@ -13,6 +13,10 @@ limit_of n Status = status_size n
 
 unfoldable pub is_address : ℕ → Space → ℕ → Bool
 is_address n space a = ltb a (limit_of n space)
+
+-- the address after one, if the memory has it
+unfoldable pub next_address : ℕ → Space → ℕ → Option ℕ
+next_address n space a = cond (ltb (a + 1) (limit_of n space)) (Some (a + 1)) None
 
 -- ---- start addresses
 

@@ -1,77 +1,76 @@
 // The three commands that read.
 ghost use Rattle.std.specs.Prelude.{◌≡◌};
-ghost use Rattle.chip_memory.specs.Layout.{page_count};
+ghost use Rattle.chip_memory.specs.Memory.{bytes, pages};
 ghost use Rattle.chip_stage.specs.Reads.{memory_from, status_from, redirection_from, page_from, start_memory, start_status, start_extended, after_memory, after_status, next_status, after_page, next_page};
 
 use crate::stage::{MemoryStage, Outgoing};
 use crate::{limits, stage};
 use base_types::address::{DataAddress, Page, Space, StatusAddress};
-use chip_memory::{image, layout};
+use chip_memory::image::Memory;
 
 // ---- the next byte to send
 
-pub fn memory_from(last: Page, a: DataAddress, crc: u16, image: &[u8]) -> MemoryStage
-    ensures { result ≡ memory_from (page_count last) a crc image.now }
+#[tactic(auto, unfolding(crate::specs::Reads::memory_from))]
+pub fn memory_from(memory: &Memory, a: DataAddress, crc: u16) -> MemoryStage
+    ensures { result ≡ memory_from (pages memory.now) a crc (bytes memory.now) }
 {
-    stage::send_byte(
-        Outgoing::MemoryData(a),
-        image::data_byte(image, last, a),
-        crc,
-    )
+    stage::send_byte(Outgoing::MemoryData(a), memory.data_byte(a), crc)
 }
 
-pub fn status_from(last: Page, a: StatusAddress, crc: u16, image: &[u8]) -> MemoryStage
-    ensures { result ≡ status_from (page_count last) a crc image.now }
+#[tactic(auto, unfolding(crate::specs::Reads::status_from))]
+pub fn status_from(memory: &Memory, a: StatusAddress, crc: u16) -> MemoryStage
+    ensures { result ≡ status_from (pages memory.now) a crc (bytes memory.now) }
 {
-    stage::send_byte(
-        Outgoing::StatusData(a),
-        image::status_byte(image, last, a),
-        crc,
-    )
+    stage::send_byte(Outgoing::StatusData(a), memory.status_byte(a), crc)
 }
 
 // The redirection byte of the page that an address lies in.
-pub fn redirection_from(last: Page, a: DataAddress, crc: u16, image: &[u8]) -> MemoryStage
-    ensures { result ≡ redirection_from (page_count last) a crc image.now }
+#[tactic(auto, unfolding(crate::specs::Reads::redirection_from))]
+pub fn redirection_from(memory: &Memory, a: DataAddress, crc: u16) -> MemoryStage
+    ensures { result ≡ redirection_from (pages memory.now) a crc (bytes memory.now) }
 {
-    let p = Page(((a.0 >> 5) & 0xFF) as u8);
-    let b = image::redirection_of(image, last, p);
+    let p = Page((a.0 >> 5).to_le_bytes()[0]);
+    let b = memory.redirection_of(p);
     stage::send_byte(Outgoing::RedirectionByte(a), b.0, crc)
 }
 
-pub fn page_from(last: Page, a: DataAddress, crc: u16, image: &[u8]) -> MemoryStage
-    ensures { result ≡ page_from (page_count last) a crc image.now }
+#[tactic(auto, unfolding(crate::specs::Reads::page_from))]
+pub fn page_from(memory: &Memory, a: DataAddress, crc: u16) -> MemoryStage
+    ensures { result ≡ page_from (pages memory.now) a crc (bytes memory.now) }
 {
-    stage::send_byte(Outgoing::PageData(a), image::data_byte(image, last, a), crc)
+    stage::send_byte(Outgoing::PageData(a), memory.data_byte(a), crc)
 }
 
 // ---- an address is in
 
-pub fn start_memory(last: Page, a: u16, crc: u16, image: &[u8]) -> MemoryStage
-    ensures { result ≡ start_memory (page_count last) a crc image.now }
+#[tactic(auto, unfolding(crate::specs::Reads::start_memory))]
+pub fn start_memory(memory: &Memory, a: u16, crc: u16) -> MemoryStage
+    ensures { result ≡ start_memory (pages memory.now) a crc (bytes memory.now) }
 {
-    if limits::is_address(last, Space::Data, a) {
-        memory_from(last, DataAddress(a), crc, image)
+    if limits::is_address(memory.last, Space::Data, a) {
+        memory_from(memory, DataAddress(a), crc)
     } else {
         MemoryStage::Silent
     }
 }
 
-pub fn start_status(last: Page, a: u16, crc: u16, image: &[u8]) -> MemoryStage
-    ensures { result ≡ start_status (page_count last) a crc image.now }
+#[tactic(auto, unfolding(crate::specs::Reads::start_status))]
+pub fn start_status(memory: &Memory, a: u16, crc: u16) -> MemoryStage
+    ensures { result ≡ start_status (pages memory.now) a crc (bytes memory.now) }
 {
-    if limits::is_address(last, Space::Status, a) {
-        status_from(last, StatusAddress(a), crc, image)
+    if limits::is_address(memory.last, Space::Status, a) {
+        status_from(memory, StatusAddress(a), crc)
     } else {
         MemoryStage::Silent
     }
 }
 
-pub fn start_extended(last: Page, a: u16, crc: u16, image: &[u8]) -> MemoryStage
-    ensures { result ≡ start_extended (page_count last) a crc image.now }
+#[tactic(auto, unfolding(crate::specs::Reads::start_extended))]
+pub fn start_extended(memory: &Memory, a: u16, crc: u16) -> MemoryStage
+    ensures { result ≡ start_extended (pages memory.now) a crc (bytes memory.now) }
 {
-    if limits::is_address(last, Space::Data, a) {
-        redirection_from(last, DataAddress(a), crc, image)
+    if limits::is_address(memory.last, Space::Data, a) {
+        redirection_from(memory, DataAddress(a), crc)
     } else {
         MemoryStage::Silent
     }
@@ -79,57 +78,54 @@ pub fn start_extended(last: Page, a: u16, crc: u16, image: &[u8]) -> MemoryStage
 
 // ---- a byte or a CRC has gone out
 
-pub fn after_memory(last: Page, a: DataAddress, crc: u16, image: &[u8]) -> MemoryStage
-    ensures { result ≡ after_memory (page_count last) a crc image.now }
+#[tactic(auto, unfolding(crate::specs::Reads::after_memory, crate::specs::Limits::next_address, crate::specs::Limits::limit_of))]
+pub fn after_memory(memory: &Memory, a: DataAddress, crc: u16) -> MemoryStage
+    ensures { result ≡ after_memory (pages memory.now) a crc (bytes memory.now) }
 {
-    let x = a.0;
-    if (x as usize) + 1 < layout::data_size(last) {
-        memory_from(last, DataAddress(x + 1), crc, image)
-    } else {
-        stage::send_crc(Outgoing::MemoryCrc, crc)
+    match limits::next(memory.last, Space::Data, a.0) {
+        Some(next) => memory_from(memory, DataAddress(next), crc),
+        None => stage::send_crc(Outgoing::MemoryCrc, crc),
     }
 }
 
-pub fn after_status(last: Page, a: StatusAddress, crc: u16, image: &[u8]) -> MemoryStage
-    ensures { result ≡ after_status (page_count last) a crc image.now }
+#[tactic(auto, unfolding(crate::specs::Reads::after_status))]
+pub fn after_status(memory: &Memory, a: StatusAddress, crc: u16) -> MemoryStage
+    ensures { result ≡ after_status (pages memory.now) a crc (bytes memory.now) }
 {
-    let x = a.0;
-    if x % 8 < 7 {
-        status_from(last, StatusAddress(x + 1), crc, image)
+    if a.0 % 8 < 7 {
+        status_from(memory, StatusAddress(a.0 + 1), crc)
     } else {
         stage::send_crc(Outgoing::StatusCrc(a), crc)
     }
 }
 
-pub fn next_status(last: Page, a: StatusAddress, image: &[u8]) -> MemoryStage
-    ensures { result ≡ next_status (page_count last) a image.now }
+#[tactic(auto, unfolding(crate::specs::Reads::next_status, crate::specs::Limits::next_address, crate::specs::Limits::limit_of))]
+pub fn next_status(memory: &Memory, a: StatusAddress) -> MemoryStage
+    ensures { result ≡ next_status (pages memory.now) a (bytes memory.now) }
 {
-    let x = a.0;
-    if (x as usize) + 1 < layout::status_size(last) as usize {
-        status_from(last, StatusAddress(x + 1), 0, image)
-    } else {
-        MemoryStage::Silent
+    match limits::next(memory.last, Space::Status, a.0) {
+        Some(next) => status_from(memory, StatusAddress(next), 0),
+        None => MemoryStage::Silent,
     }
 }
 
-pub fn after_page(last: Page, a: DataAddress, crc: u16, image: &[u8]) -> MemoryStage
-    ensures { result ≡ after_page (page_count last) a crc image.now }
+#[tactic(auto, unfolding(crate::specs::Reads::after_page))]
+pub fn after_page(memory: &Memory, a: DataAddress, crc: u16) -> MemoryStage
+    ensures { result ≡ after_page (pages memory.now) a crc (bytes memory.now) }
 {
-    let x = a.0;
-    if x % 32 < 31 {
-        page_from(last, DataAddress(x + 1), crc, image)
+    if a.0 % 32 < 31 {
+        page_from(memory, DataAddress(a.0 + 1), crc)
     } else {
         stage::send_crc(Outgoing::PageCrc(a), crc)
     }
 }
 
-pub fn next_page(last: Page, a: DataAddress, image: &[u8]) -> MemoryStage
-    ensures { result ≡ next_page (page_count last) a image.now }
+#[tactic(auto, unfolding(crate::specs::Reads::next_page, crate::specs::Limits::next_address, crate::specs::Limits::limit_of))]
+pub fn next_page(memory: &Memory, a: DataAddress) -> MemoryStage
+    ensures { result ≡ next_page (pages memory.now) a (bytes memory.now) }
 {
-    let x = a.0;
-    if (x as usize) + 1 < layout::data_size(last) {
-        redirection_from(last, DataAddress(x + 1), 0, image)
-    } else {
-        MemoryStage::Silent
+    match limits::next(memory.last, Space::Data, a.0) {
+        Some(next) => redirection_from(memory, DataAddress(next), 0),
+        None => MemoryStage::Silent,
     }
 }

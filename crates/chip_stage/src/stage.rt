@@ -2,11 +2,12 @@
 ghost use Rattle.std.specs.Prelude.{◌≡◌};
 ghost use Rattle.chip_stage.specs.Stages.{receiving, sending_byte, sending_crc};
 
+use base_crc::crc16;
 use base_types::address::{DataAddress, Space, StatusAddress, Target};
 use base_types::write_mode::WriteMode;
 
 // A memory command that takes an address.
-#[derive(Clone, Copy)]
+#[derive(Clone, Copy, Debug, PartialEq, Eq)]
 pub enum Command {
     ReadMemory,
     ReadStatus,
@@ -15,7 +16,7 @@ pub enum Command {
 }
 
 // What a byte that comes in is.
-#[derive(Clone, Copy)]
+#[derive(Clone, Copy, Debug, PartialEq, Eq)]
 pub enum Incoming {
     Command,
     AddressLow(Command),
@@ -25,7 +26,7 @@ pub enum Incoming {
 
 // What is being sent. A data or status byte is named by its address, and a CRC by the last address that it covers. A CRC before a pulse
 // is sent in the ordinary mode only.
-#[derive(Clone, Copy)]
+#[derive(Clone, Copy, Debug, PartialEq, Eq)]
 pub enum Outgoing {
     MemoryData(DataAddress),
     MemoryCrc,
@@ -41,7 +42,7 @@ pub enum Outgoing {
 
 // Silent until reset. Receive: what comes, how many of its bits are in, the register that collects them, the CRC register.
 // Send: what goes, how many bits are left, these bits, the CRC register. Armed: a pulse will write the byte.
-#[derive(Clone, Copy)]
+#[derive(Clone, Copy, Debug, PartialEq, Eq)]
 pub enum MemoryStage {
     Silent,
     Receive(Incoming, u8, u8, u16),
@@ -50,6 +51,7 @@ pub enum MemoryStage {
 }
 
 // Before the first bit of a byte that comes in.
+#[tactic(auto, unfolding(crate::specs::Stages::receiving))]
 pub fn receive(i: Incoming, crc: u16) -> MemoryStage
     ensures { result ≡ receiving i crc }
 {
@@ -57,15 +59,17 @@ pub fn receive(i: Incoming, crc: u16) -> MemoryStage
 }
 
 // Before the first bit of a byte that goes out, which the CRC takes in.
+#[tactic(auto, unfolding(crate::specs::Stages::sending_byte))]
 pub fn send_byte(o: Outgoing, v: u8, crc: u16) -> MemoryStage
     ensures { result ≡ sending_byte o v crc }
 {
-    MemoryStage::Send(o, 8, v as u16, base_crc::crc16::byte(crc, v))
+    MemoryStage::Send(o, 8, u16::from(v), crc16::byte(crc, v))
 }
 
 // Before the first bit of a CRC.
+#[tactic(auto, unfolding(crate::specs::Stages::sending_crc))]
 pub fn send_crc(o: Outgoing, crc: u16) -> MemoryStage
     ensures { result ≡ sending_crc o crc }
 {
-    MemoryStage::Send(o, 16, base_crc::crc16::word(crc), crc)
+    MemoryStage::Send(o, 16, crc16::word(crc), crc)
 }

@@ -8,11 +8,13 @@ use native.Mathlib.Numerals.{add-one}
 use lib.ListN.{length, drop, replicate, drop_of_length-le}
 use lib.Seq.{drop-cons}
 use borrow.Author.Tests.{lt-ltb, le-ltb, ne_eqb}
+use Rattle.std.specs.Prelude.{Ok, Err}
 use Rattle.base_types.specs.Bits.{same}
 use Rattle.base_types.specs.Outcome.{Outcome, accepted}
 use Rattle.base_types.specs.declared.address.Page.{Page}
 use Rattle.chip_memory.specs.Page.{copied}
 use Rattle.chip_memory.proofs.Pages.{copied_same}
+use Rattle.bus_events.specs.declared.Next.TheVariants.{End}
 use Rattle.bus_scripts.specs.Next.{Next, tells, events_of}
 use Rattle.bus_scripts.specs.Joint.{Begins}
 use Rattle.bus_scripts.specs.Script.{Script, gives, play, play_on, Played}
@@ -24,17 +26,11 @@ use Rattle.master_plan.specs.declared.Step.{Step}
 use Rattle.master_plan.specs.declared.kind.UpdateKind.{UpdateKind}
 use Rattle.master_plan.specs.Plan.{reset_step, step_events}
 use Rattle.master_plan.proofs.Lengths.{plan_length}
-use Rattle.master_publisher.specs.declared.Answer.TheVariants.{Published}
-use Rattle.master_publisher.specs.declared.Choice.{Choice}
-use Rattle.master_publisher.specs.declared.Choice.TheVariants.{Refused, Accepted}
-use Rattle.master_publisher.specs.declared.Judged.{Judged}
-use Rattle.master_publisher.specs.declared.Judged.TheVariants.{On, Stop}
 use Rattle.master_publisher.specs.declared.Stage.{Stage}
 use Rattle.master_publisher.specs.declared.Stage.TheVariants.{Running}
 use Rattle.master_publisher.specs.declared.Publisher.{Publisher}
-use Rattle.master_publisher.specs.declared.Stepped.{Stepped}
-use Rattle.master_publisher.specs.Start.{choice_of, ready, stopped_by, choice_state, bitmap_byte}
-use Rattle.master_publisher.specs.Code.Turn.{plan_in, total_in, judged_last, judged_presence, judged_of, step_of, wanted_of, at_stage, gone_on, judged_turn, turn_of}
+use Rattle.master_publisher.specs.Start.{Choice, choice_of, ready, stopped_by, choice_state, bitmap_byte}
+use Rattle.master_publisher.specs.Code.Turn.{Judged, Turn, plan_in, total_in, judged_last, judged_of, step_of, wanted_of, at_stage, gone_on, judged_turn, turn_of}
 use Rattle.master_publisher.specs.Call.{publisher_in_range, turn_outcome, call_answer, call_state}
 use Rattle.chip_entries.specs.Run.{Chip, next, line_at}
 use Rattle.master_plan_laws.specs.Plan.{Meets, Fits}
@@ -46,27 +42,27 @@ use Rattle.master_call_laws.proofs.Script.{judged_script, as_script, planned}
 
 -- ---- the publisher as a machine: a state with what was told last
 
-abbrev stepping : Stepped → Bool → Stepped
+abbrev stepping : Turn → Bool → Turn
 stepping t r = turn_in t.state r
 
-abbrev showing : Stepped → Outcome Next
+abbrev showing : Turn → Outcome Next
 showing t = turn_outcome t.answer
 
-abbrev handing : Stepped → List ℕ
+abbrev handing : Turn → List ℕ
 handing t = []
 
 -- it does what a script does
-abbrev Does : Stepped → Script → Type 0
+abbrev Does : Turn → Script → Type 0
 Does t script = Follows stepping showing handing t script
 
 -- then its calls play the script
 does_plays : (n : ℕ) (s : Publisher) (script : Script) → publisher_in_range n s ≡ true → ((r : Bool) → Does (turn_in s r) script)
     → (replies : List Bool) → update_answers n s replies ≡ play script replies
 does_plays n s script h f replies =
-    plays_from {step = stepping} {show = showing} {hand = handing} (call_state n) (call_answer n) (λ (c : Publisher) (t : Stepped). (c ≡ t.state) × (publisher_in_range n c ≡ true))
+    plays_from {step = stepping} {show = showing} {hand = handing} (call_state n) (call_answer n) (λ (c : Publisher) (t : Turn). (c ≡ t.state) × (publisher_in_range n c ≡ true))
     (λ c t r sees. (called_is n c r sees.1 ∙ ap (λ (u : Publisher). (turn_in u r).state) sees.0, call_keeps n c r sees.1))
     (λ c t r sees. told_is n c r sees.1 ∙ ap (λ (u : Publisher). turn_outcome (turn_in u r).answer) sees.0)
-    replies s (record { answer = Published s.superseded s.target; state = s }) (λ first. script) (refl, h) f
+    replies s (record { answer = Ok (End (s.superseded, s.target)); state = s }) (λ first. script) (refl, h) f
 
 -- ---- a state that has so many events of its plan behind it
 
@@ -89,8 +85,8 @@ module _ (s : Publisher) (long : length (plan_in s) ≡ total_in s) where
   judged_does : (k : ℕ) (g : Stage) (j : Judged) → ((good : Bool) → Does (gone_on (total_in s) (plan_in s) (at_stage s g) k good) (left k good))
       → Does (judged_turn (total_in s) (plan_in s) (at_stage s g) k j) (judged_script j (left k))
   unfolding judged_turn turn_of
-  judged_does k g (On good) f = f good
-  judged_does k g (Stop r) f = stopping refl refl (λ reply. refl)
+  judged_does k g (Ok good) f = f good
+  judged_does k g (Err r) f = stopping refl refl (λ reply. refl)
 
   gone_does : (m k : ℕ) → k + m ≡ total_in s → (g : Stage) (good : Bool) → Does (gone_on (total_in s) (plan_in s) (at_stage s g) k good) (left k good)
   unfolding gone_on turn_of
@@ -126,8 +122,8 @@ module _ (n : ℕ) (kind : UpdateKind) (img new : List ℕ) (p : ℕ) (replies :
   pub choice_plays : (ch : Choice) → choice_of n kind.placement img new p ≡ ch → publisher_in_range n (choice_state n kind img new ch) ≡ true
       → update_answers n (choice_state n kind img new ch) replies ≡ play (publisher_script n kind img new ch) replies
   unfolding choice_state stopped_by turn_of
-  choice_plays (Refused r) e h = does_plays n (stopped_by kind r) (publisher_script n kind img new (Refused r)) h (λ reply. stopping refl refl (λ again. refl)) replies
-  choice_plays (Accepted l t) e h = ready_plays l t h (chosen_means l t n kind img new p e).long
+  choice_plays (Err r) e h = does_plays n (stopped_by kind r) (publisher_script n kind img new (Err r)) h (λ reply. stopping refl refl (λ again. refl)) replies
+  choice_plays (Ok pages) e h = ready_plays pages.0 pages.1 h (chosen_means pages.0 pages.1 n kind img new p e).long
 
 -- ---- the order of the events
 
@@ -137,8 +133,8 @@ steps_keep [] values good = given
 steps_keep (s ∷ ss) values good = sending (λ r. go (judged_of s.wanted good r) (steps_keep ss values))
   where
     go : (j : Judged) → ((g : Bool) → Keeps (as_script ss (λ g. gives values []) g) (step_events ss)) → Keeps (judged_script j (as_script ss (λ g. gives values []))) (step_events ss)
-    go (On g) h = h g
-    go (Stop stop) h = stopped
+    go (Ok g) h = h g
+    go (Err stop) h = stopped
 
 pub events_ordered : (n : ℕ) (s : Publisher) (replies : List Bool) → Started n s → Begins (events_in s) (events_of (update_answers n s replies))
 events_ordered n s replies st =
@@ -152,8 +148,8 @@ same_itself true = refl
 same_itself false = refl
 
 -- a reply that is what it has to be leads on
-meets_on : (w : Wanted) (r : Bool) → Meets w r → judged_of w true r ≡ On true
-unfolding judged_of judged_last judged_presence
+meets_on : (w : Wanted) (r : Bool) → Meets w r → judged_of w true r ≡ Ok true
+unfolding judged_of judged_last
 meets_on Anything r m = refl
 meets_on Presence r m = rw m refl
 meets_on (Bit b) r m = rw m (simp same_itself)

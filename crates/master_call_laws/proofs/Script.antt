@@ -7,7 +7,9 @@ use native.Mathlib.Omega.{arith}
 use native.Mathlib.Nat.{pow-succ'}
 use lib.Dec.{eqb}
 use lib.Bits.{bit_and, and_le_l, and_le_r}
-use borrow.Author.Tests.{eq-eqb, ne_eqb, eqb-true, eqb-false}
+use borrow.Author.Tests.{eq-eqb}
+use Rattle.std.specs.Prelude.{Ok, Err}
+use Rattle.std.proofs.lemmas.Bool.Decides.{nat_tests}
 use Rattle.base_types.specs.Bits.{one, odd, bits_of_bytes, same}
 use Rattle.base_types.specs.Refusal.{number_of, values_of}
 use Rattle.base_types.specs.declared.address.Target.{Target}
@@ -29,16 +31,14 @@ use Rattle.master_plan.specs.Plan.{reset_step, pulse_step, freely, send_steps, r
 use Rattle.master_publisher.specs.declared.PublisherStop.{PublisherStop}
 use Rattle.master_publisher.specs.declared.PublisherStop.TheVariants.{Crc16, ReadBack}
 use Rattle.master_publisher.specs.Stop.{publisher_refusal}
-use Rattle.master_publisher.specs.declared.Judged.{Judged}
-use Rattle.master_publisher.specs.declared.Judged.TheVariants.{On, Stop}
-use Rattle.master_publisher.specs.Code.Turn.{judged_last, judged_presence, judged_of}
+use Rattle.master_publisher.specs.Code.Turn.{Judged, judged_last, judged_of}
 use Rattle.master_call_laws.specs.Script.{check_crc, write_byte, write_bytes, write, update_script}
 
 -- on is what follows, by whether the bits so far have agreed
 
 abbrev pub judged_script : Judged → (Bool → Script) → Script
-judged_script (On good) on = on good
-judged_script (Stop stop) on = stops (number_of (publisher_refusal stop)) (values_of (publisher_refusal stop))
+judged_script (Ok good) on = on good
+judged_script (Err stop) on = stops (number_of (publisher_refusal stop)) (values_of (publisher_refusal stop))
 
 abbrev pub as_script : List Step → (Bool → Script) → Bool → Script
 as_script [] on good = on good
@@ -57,7 +57,7 @@ free (bit ∷ bits) on = ap (sends (slot bit)) (fun_ext (λ r. free bits on))
 
 -- a reset
 reset_script : (on : Bool → Script) (good : Bool) → as_script (reset_step ∷ []) on good ≡ reset (on true)
-unfolding judged_of judged_presence
+unfolding judged_of judged_last
 reset_script on good = ap (sends reset_step.event) (fun_ext go)
   where
     go : (r : Bool) → judged_script (judged_of Presence good r) on ≡ check_with (not r) 13 [] (on true)
@@ -66,22 +66,15 @@ reset_script on good = ap (sends reset_step.event) (fun_ext go)
 
 -- ---- bits that are read, one by one, against a number
 
-both_ways : (a b c d : ℕ) → (a ≡ b → c ≡ d) → (c ≡ d → a ≡ b) → eqb a b ≡ eqb c d
-both_ways a b c d f g = go (eqb a b) refl
-  where
-    go : (t : Bool) → eqb a b ≡ t → t ≡ eqb c d
-    go true e = sym (eq-eqb c d (f (eqb-true a b e)))
-    go false e = sym (ne_eqb c d (λ x. eqb-false a b e (g x)))
-
 -- a number whose lowest bit is read first agrees with v where that bit does and the rest does
 bit_by_bit : (r : Bool) (w v : ℕ) → (same (odd v) r && eqb w (v / 2)) ≡ eqb (one r + 2 * w) v
 bit_by_bit r w v = go r (odd v) (one_odd v)
   where
     go : (r o : Bool) → one o ≡ v % 2 → (same o r && eqb w (v / 2)) ≡ eqb (one r + 2 * w) v
-    go true true h = both_ways w (v / 2) (1 + 2 * w) v (λ e. omega arith) (λ e. omega arith)
-    go true false h = sym (ne_eqb (1 + 2 * w) v (λ e. omega arith))
-    go false true h = sym (ne_eqb (0 + 2 * w) v (λ e. omega arith))
-    go false false h = both_ways w (v / 2) (0 + 2 * w) v (λ e. omega arith) (λ e. omega arith)
+    go true true h = grind (arith, nat_tests)
+    go true false h = grind (arith, nat_tests)
+    go false true h = grind (arith, nat_tests)
+    go false false h = grind (arith, nat_tests)
 
 module _ (last : Bool → Wanted) (stop : PublisherStop) (judged : (b good r : Bool) → judged_of (last b) good r ≡ judged_last (good && same b r) stop) (on : Bool → Script) where
   -- what follows a number that was read

@@ -1,12 +1,12 @@
 -- The publisher's later calls one after the other, over the page count n.
-use Rattle.std.specs.Prelude.{ℕ, ◌≡◌, Bool, true, false, List, [], ◌∷◌, ◌↔◌, length}
-use Rattle.base_types.specs.Outcome.{Outcome, refused, accepted}
+use Rattle.std.specs.Prelude.{ℕ, ◌≡◌, Bool, true, false, List, [], ◌↔◌, length}
+use Rattle.base_types.specs.Outcome.{Outcome, refused}
 use Rattle.base_types.specs.declared.write_mode.WriteMode.TheVariants.{Quick}
 use Rattle.bus_events.specs.declared.Event.{Event}
-use Rattle.bus_scripts.specs.Next.{Next, tells, out_of, events_of}
+use Rattle.bus_scripts.specs.Next.{Next, out_of, events_of}
 use Rattle.bus_scripts.specs.Joint as joint
 use Rattle.bus_scripts.specs.Joint.{Begins, Good}
-use Rattle.bus_scripts.specs.Script.{Script, play, telling, played_telling}
+use Rattle.bus_scripts.specs.Script.{Script, play, played_telling}
 use Rattle.master_plan.specs.declared.kind.UpdateKind.{UpdateKind}
 use Rattle.master_plan.specs.Plan.{plan_of, step_events}
 use Rattle.master_publisher.specs.declared.Stage.TheVariants.{Running}

@@ -1,5 +1,5 @@
 -- The ranges of a publisher's state, as docs/RANGES.md lists them, in plain numbers, over the page count n.
-use Rattle.std.specs.Prelude.{ℕ, ◌<◌, ◌≤◌, ◌≡◌, Bool, cond, List, [], ◌∷◌, eqb}
+use Rattle.std.specs.Prelude.{ℕ, ◌<◌, ◌≤◌, ◌≡◌, Bool, cond, [], ◌∷◌, eqb}
 use Rattle.base_types.specs.declared.write_mode.WriteMode.{WriteMode}
 use Rattle.base_types.specs.declared.write_mode.WriteMode.TheVariants.{Ordinary}
 use Rattle.bus_scripts.specs.Ranges.{among}

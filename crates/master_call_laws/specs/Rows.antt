@@ -1,5 +1,5 @@
 -- Whose protection closes a band (M-104): the start on DS2505 images. One statement covers the rows.
-use Rattle.std.specs.Prelude.{ℕ, ◌+◌, ◌-◌, ◌/◌, ◌%◌, ◌^◌, refl, List, [], ◌∷◌, replicate, set}
+use Rattle.std.specs.Prelude.{ℕ, ◌+◌, ◌-◌, ◌/◌, ◌%◌, ◌^◌, refl, List, [], ◌∷◌, Ok, Err, replicate, set}
 use Rattle.base_types.specs.declared.address.Page.{Page}
 use Rattle.base_types.specs.declared.address.Target.TheVariants.{Status}
 use Rattle.master_plan.specs.declared.kind.Placement.TheVariants.{LowestFree}
@@ -15,9 +15,7 @@ use Rattle.base_types.specs.Rows.{Row, ◌gives◌, Hold}
 use Rattle.base_types.specs.Scan.{every}
 use Rattle.chip_chain.specs.Scan.{first}
 use Rattle.chip_chain.specs.Free.{is_unnamed, is_free, is_free_other, lowest_free}
-use Rattle.master_publisher.specs.declared.Choice.{Choice}
-use Rattle.master_publisher.specs.declared.Choice.TheVariants.{Refused, Accepted}
-use Rattle.master_publisher.specs.Start.{found_choice, choice_free, choice_final, choice_walked, choice_of}
+use Rattle.master_publisher.specs.Start.{Choice, found_choice, choice_free, choice_final, choice_walked, choice_of}
 
 -- all FFh but that page 5 names page 9
 pub redirected_once : List ℕ
@@ -36,12 +34,12 @@ update_of img = choice_of 64 LowestFree img (replicate 32 0) 5
 
 pub protection_rows : List (Row Choice)
 protection_rows =
-    (update_of redirected_once gives Accepted (page_of 9) (page_of 1))
-    ∷ (update_of (protecting DataProtection 5 redirected_once) gives Accepted (page_of 9) (page_of 1))
-    ∷ (update_of (protecting DataProtection 1 redirected_once) gives Accepted (page_of 9) (page_of 2))
-    ∷ (update_of (protecting DataProtection 9 redirected_once) gives Refused (DataProtected (page_of 9)))
-    ∷ (update_of (protecting RedirectionProtection 9 redirected_once) gives Refused (RedirectionProtected (page_of 9)))
-    ∷ (update_of (protecting DataProtection 9 (protecting RedirectionProtection 9 redirected_once)) gives Refused (DataProtected (page_of 9)))
+    (update_of redirected_once gives Ok (page_of 9, page_of 1))
+    ∷ (update_of (protecting DataProtection 5 redirected_once) gives Ok (page_of 9, page_of 1))
+    ∷ (update_of (protecting DataProtection 1 redirected_once) gives Ok (page_of 9, page_of 2))
+    ∷ (update_of (protecting DataProtection 9 redirected_once) gives Err (DataProtected (page_of 9)))
+    ∷ (update_of (protecting RedirectionProtection 9 redirected_once) gives Err (RedirectionProtected (page_of 9)))
+    ∷ (update_of (protecting DataProtection 9 (protecting RedirectionProtection 9 redirected_once)) gives Err (DataProtected (page_of 9)))
     ∷ []
 
 pub protection_rows_hold : Hold protection_rows

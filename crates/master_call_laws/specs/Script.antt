@@ -1,5 +1,5 @@
 -- What an update does on the bus, in document 01's words, by the kind of the update.
-use Rattle.std.specs.Prelude.{ℕ, ◌+◌, List, [], ◌∷◌, ◌++◌}
+use Rattle.std.specs.Prelude.{ℕ, ◌+◌, List, [], ◌∷◌, ◌++◌, Ok, Err}
 use Rattle.std.specs.Int.Bits.{bit_and}
 use Rattle.base_types.specs.Refusal.{number_of, values_of}
 use Rattle.base_types.specs.declared.address.Target.{Target}
@@ -12,10 +12,8 @@ use Rattle.bus_scripts.specs.Script.{Script, stops, gives, ◌>>◌, reset, send
 use Rattle.master_plan.specs.declared.kind.UpdateKind.{UpdateKind}
 use Rattle.master_plan.specs.Kind.{selecting}
 use Rattle.master_plan.specs.Places.{bitmap_address, clearing, page_address, redirection_address, naming, address_of, head_of}
-use Rattle.master_publisher.specs.declared.Choice.{Choice}
-use Rattle.master_publisher.specs.declared.Choice.TheVariants.{Refused, Accepted}
 use Rattle.master_publisher.specs.Stop.{publisher_refusal}
-use Rattle.master_publisher.specs.Start.{bitmap_byte}
+use Rattle.master_publisher.specs.Start.{Choice, bitmap_byte}
 
 -- a CRC is read and checked in the ordinary mode only
 abbrev pub check_crc : WriteMode → ℕ → Script → Script
@@ -60,5 +58,5 @@ update_script kind l t used new = do
 
 -- a publisher after its start: the update, or the start's refusal
 abbrev pub publisher_script : ℕ → UpdateKind → List ℕ → List ℕ → Choice → Script
-publisher_script n kind img new (Refused stop) = stops (number_of (publisher_refusal stop)) (values_of (publisher_refusal stop))
-publisher_script n kind img new (Accepted l t) = update_script kind l.0 t.0 (bitmap_byte n img t.0) new
+publisher_script n kind img new (Err stop) = stops (number_of (publisher_refusal stop)) (values_of (publisher_refusal stop))
+publisher_script n kind img new (Ok pages) = update_script kind pages.0.0 pages.1.0 (bitmap_byte n img pages.1.0) new

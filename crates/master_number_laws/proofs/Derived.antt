@@ -9,7 +9,6 @@ use Rattle.base_types.specs.Bits.{bits_of, bits_of_bytes}
 use Rattle.base_types.specs.Outcome.{Outcome, refused, accepted}
 use Rattle.base_types.proofs.Words.{bytes_length}
 use Rattle.bus_events.specs.declared.Event.{Event}
-use Rattle.bus_events.specs.Events as bus
 use Rattle.bus_events.specs.Slots.{ones}
 use Rattle.bus_events.proofs.Slots.{slots_append}
 use Rattle.bus_scripts.specs.Next.{Next, tells, out_of, events_of}
@@ -63,7 +62,7 @@ number_image_stays n c replies =
 -- ---- a number that was told
 
 told_not : (bytes : List ℕ) (number : ℕ) (values : List ℕ) → accepted (tells bytes) ≡ refused number values → ⊥
-told_not bytes number values e = let z : ◌≡◌ {A = ℕ} 0 1 = cc in omega arith
+told_not bytes number values e = cc
 
 run_agreed : (first : Bool) (used rest : List Bool) (events : List Event) (bytes handed : List ℕ) → Runs number_script used events (accepted (tells bytes)) handed
     → NumberAgreed (first ∷ (used ++ rest)) bytes
@@ -91,8 +90,8 @@ run_agreed first used rest events bytes handed h =
 
 pub number_agreed : (replies : List Bool) (before later : List (Outcome Next)) (bytes : List ℕ)
     → number_answers_to number_begun replies ≡ before ++ (accepted (tells bytes) ∷ later) → NumberAgreed replies bytes
-number_agreed [] [] later bytes e = let z : ◌≡◌ {A = ℕ} 0 1 = cc in absurd (omega arith)
-number_agreed [] (x ∷ before) later bytes e = let z : ◌≡◌ {A = ℕ} 0 1 = cc in absurd (omega arith)
+number_agreed [] [] later bytes e = cc
+number_agreed [] (x ∷ before) later bytes e = cc
 number_agreed (first ∷ rs) before later bytes e =
     let h = told_ended number_script first rs (accepted (tells bytes)) before later refl (sym (number_plays (first ∷ rs)) ∙ e) in
     subst (λ (l : List Bool). NumberAgreed (first ∷ l) bytes) (sym h.is) (run_agreed first h.used h.rest h.events bytes h.bytes h.runs)

@@ -1,6 +1,6 @@
 -- The ranges are those listed, and the start and every call keep to them; within them a call takes the reply and tells what the state then
 -- reached shows.
-use Prim.Native.Nat.{ℕ, ◌+◌, ◌<◌, ◌≤◌}
+use Prim.Native.Nat.{ℕ, ◌+◌}
 use mathlib.Core.Bool.{Bool, true, false}
 use mathlib.Core.List.{List, [], ◌∷◌}
 use mathlib.Core.Logic.{◌↔◌}
@@ -60,7 +60,7 @@ NumberFit s = number_in_range s ≡ true
 
 -- what is told on the way into a state
 abbrev pub number_shown : NumberRead → Outcome Next
-number_shown s = answer_outcome (number_phase_answer s.phase) s.bytes
+number_shown s = answer_outcome (number_phase_answer s.phase s.bytes)
 
 pub number_starts : NumberFit number_begun
 unfolding number_phase_in_range
@@ -105,17 +105,17 @@ pub number_outside : (s : NumberRead) (reply : Bool) → number_in_range s ≡ f
 unfolding number_answer number_state
 number_outside s reply h = (simp h, simp h)
 
-not_2 : (phase : Phase) (bytes values : List ℕ) → answer_outcome (number_phase_answer phase) bytes ≡ refused 2 values → ⊥
+not_2 : (phase : Phase) (bytes values : List ℕ) → answer_outcome (number_phase_answer phase bytes) ≡ refused 2 values → ⊥
 unfolding number_phase_answer
-not_2 Begin bytes values e = let z : ◌≡◌ {A = ℕ} 0 1 = cc in omega arith
-not_2 Presence bytes values e = let z : ◌≡◌ {A = ℕ} 0 1 = cc in omega arith
-not_2 (Command i) bytes values e = let z : ◌≡◌ {A = ℕ} 0 1 = cc in omega arith
-not_2 (Receive k left v) bytes values e = let z : ◌≡◌ {A = ℕ} 0 1 = cc in omega arith
-not_2 Closing bytes values e = let z : ◌≡◌ {A = ℕ} 0 1 = cc in omega arith
-not_2 Done bytes values e = let z : ◌≡◌ {A = ℕ} 0 1 = cc in omega arith
-not_2 (Stopped NoPresence) bytes values e = let z : ◌≡◌ {A = ℕ} 13 2 = cc in omega arith
-not_2 (Stopped Crc8) bytes values e = let z : ◌≡◌ {A = ℕ} 14 2 = cc in omega arith
-not_2 (Stopped Family) bytes values e = let z : ◌≡◌ {A = ℕ} 15 2 = cc in omega arith
+not_2 Begin bytes values e = cc
+not_2 Presence bytes values e = cc
+not_2 (Command i) bytes values e = cc
+not_2 (Receive k left v) bytes values e = cc
+not_2 Closing bytes values e = cc
+not_2 Done bytes values e = cc
+not_2 (Stopped NoPresence) bytes values e = cc
+not_2 (Stopped Crc8) bytes values e = cc
+not_2 (Stopped Family) bytes values e = cc
 
 pub number_never_2 : (s : NumberRead) (reply : Bool) (values : List ℕ) → number_in_range s ≡ true → number_answer s reply ≡ refused 2 values → ⊥
 number_never_2 s reply values h e = not_2 (number_next s reply).phase (number_next s reply).bytes values (sym (answer_is s reply h) ∙ e)

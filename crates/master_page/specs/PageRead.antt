@@ -1,10 +1,13 @@
 -- The page read's ranges, its start and its later calls, over the page count n. A call takes the reply to the last event
 -- (specs/Code/PageSteps.antt) and tells what the state then reached shows.
-use Rattle.std.specs.Prelude.{ℕ, Bool, true, false, cond, not, List, [], ◌∷◌, ltb, eqb, length, replicate}
+use Rattle.std.specs.Prelude.{ℕ, Bool, true, false, cond, not, List, [], ◌∷◌, Result, Ok, Err, ⊤, ltb, eqb, length, replicate}
+use Rattle.base_types.specs.declared.address.Page.{Page}
+use Rattle.base_types.specs.declared.refusal.Refusal.{Refusal}
 use Rattle.base_types.specs.Outcome.{Outcome, accepted, refusing, judge}
+use Rattle.bus_events.specs.declared.Next.{Next as CodeNext}
 use Rattle.chip_memory.specs.Layout.{is_page}
 use Rattle.chip_memory.specs.Page.{copied}
-use Rattle.bus_scripts.specs.Next.{Next, send, tells}
+use Rattle.bus_scripts.specs.Next.{Next, next_outcome}
 use Rattle.master_page.specs.declared.Part.{Part}
 use Rattle.master_page.specs.declared.Part.TheVariants.{Redirection, RedirectionCrc, Data, DataCrc}
 use Rattle.master_page.specs.declared.Phase.{Phase}
@@ -12,10 +15,6 @@ use Rattle.master_page.specs.declared.Phase.TheVariants.{Begin, Presence, Comman
 use Rattle.master_page.specs.declared.PageStop.{PageStop}
 use Rattle.master_page.specs.declared.PageStop.TheVariants.{PageNumber, Loop, Outside, Crc16, NoPresence}
 use Rattle.master_page.specs.declared.PageRead.{PageRead}
-use Rattle.master_page.specs.declared.Answer.{Answer}
-use Rattle.master_page.specs.declared.Answer.TheVariants.{Send, Final, Refused}
-use Rattle.master_page.specs.declared.StartAnswer.{StartAnswer}
-use Rattle.master_page.specs.declared.StartAnswer.TheVariants.{Refused as StartRefused, Ready}
 use Rattle.master_page.specs.Code.PageSteps.{page_next, page_phase_answer, finishes}
 
 -- ---- ranges
@@ -63,9 +62,10 @@ page_begun p = record { phase = Begin; page = record { 0 = p }; hops = 0; bytes 
 unfoldable pub refused_start : PageRead
 refused_start = record { phase = Stopped PageNumber; page = record { 0 = 0 }; hops = 0; bytes = replicate 32 0 }
 
-abbrev pub start_outcome : StartAnswer → Outcome (List ℕ)
-start_outcome (StartRefused r) = refusing r
-start_outcome Ready = accepted []
+-- what the start tells: no values
+abbrev pub start_outcome : Result ⊤ Refusal → Outcome (List ℕ)
+start_outcome (Ok t) = accepted []
+start_outcome (Err r) = refusing r
 
 -- 3, or nothing but the state
 unfoldable pub start_answer : ℕ → ℕ → Outcome (List ℕ)
@@ -76,11 +76,9 @@ start_state n p = cond (is_page n p) (page_begun p) refused_start
 
 -- ---- the later calls
 
--- what an answer tells; Final tells the page and the hops
-abbrev pub read_outcome : Answer → Outcome Next
-read_outcome (Send e) = accepted (send e)
-read_outcome (Final p hops) = accepted (tells (p.0 ∷ hops ∷ []))
-read_outcome (Refused r) = refusing r
+-- what an answer tells; the end tells the page and the hops
+abbrev pub read_outcome : Result (CodeNext (Page × ℕ)) Refusal → Outcome Next
+read_outcome = next_outcome (λ e. e.0.0 ∷ e.1 ∷ [])
 
 -- what is told on the way into a state
 abbrev pub page_shown : PageRead → Outcome Next

@@ -24,7 +24,7 @@ use Rattle.chip_entries.specs.Run.{Chip, run}
 use Rattle.chip_session_laws.proofs.Unpulsed.{NoPulse, unpulsed}
 use Rattle.master_page_laws.specs.Script.{read_command, crc_word}
 use Rattle.master_page_laws.specs.Script.{visit_script, final_script, by_byte, walk_script, page_script}
-use Rattle.master_page_laws.specs.Heard.{visit_events, visit_replies, data_events, data_replies, Redirects, Heard, at_final, at_outside, at_loop, at_next}
+use Rattle.master_page_laws.specs.Heard.{visit_events, visit_replies, data_events, Redirects, Heard, at_final, at_outside, at_loop, at_next}
 use Rattle.master_page.specs.Held.{page_started}
 use Rattle.master_page_laws.specs.Laws.{page_answers_to, page_after, verdict_outcome, PageAgreed, most_events}
 use Rattle.master_page_laws.proofs.Blocks.{Verdicts, command_length, visit_passed, final_passed}
@@ -38,6 +38,13 @@ visit_counted p = refl
 
 pub page_counted : length data_events ≡ 273
 page_counted = refl
+
+-- ---- a verdict tells no event
+
+pub quiet_verdict : (v : Verdict) → out_of (verdict_outcome v) ≡ quiet
+quiet_verdict (Final p hops) = refl
+quiet_verdict Loop = refl
+quiet_verdict (Outside k) = refl
 
 -- ---- how many events, and no pulse
 
@@ -80,30 +87,25 @@ module _ (n : ℕ) where
   -- ---- a verdict that was told
 
   verdicts : (v : Verdict) → Verdicts (verdict_outcome v)
-  verdicts (Final p hops) = record { present = λ e. let z : ◌≡◌ {A = ℕ} 0 1 = cc in omega arith; sound = λ e. let z : ◌≡◌ {A = ℕ} 0 1 = cc in omega arith }
-  verdicts Loop = record { present = λ e. let z : ◌≡◌ {A = ℕ} 4 13 = cc in omega arith; sound = λ e. let z : ◌≡◌ {A = ℕ} 4 6 = cc in omega arith }
-  verdicts (Outside k) = record { present = λ e. let z : ◌≡◌ {A = ℕ} 5 13 = cc in omega arith; sound = λ e. let z : ◌≡◌ {A = ℕ} 5 6 = cc in omega arith }
-
-  quiet_verdict : (v : Verdict) → out_of (verdict_outcome v) ≡ quiet
-  quiet_verdict (Final p hops) = refl
-  quiet_verdict Loop = refl
-  quiet_verdict (Outside k) = refl
+  verdicts (Final p hops) = record { present = λ e. cc; sound = λ e. cc }
+  verdicts Loop = record { present = λ e. cc; sound = λ e. cc }
+  verdicts (Outside k) = record { present = λ e. cc; sound = λ e. cc }
 
   -- a verdict by what is told of it
   is_final : (v : Verdict) (p hops : ℕ) → verdict_outcome v ≡ accepted (tells (p ∷ hops ∷ [])) → final p hops ≡ v
-  is_final (Final q h) p hops e = let a : p ≡ q.0 = cc in let b : hops ≡ h = cc in ap₂ (λ (x y : ℕ). final x y) a b
-  is_final Loop p hops e = let z : ◌≡◌ {A = ℕ} 0 1 = cc in absurd (omega arith)
-  is_final (Outside k) p hops e = let z : ◌≡◌ {A = ℕ} 0 1 = cc in absurd (omega arith)
+  is_final (Final q h) p hops e = ap₂ final (cc) (cc)
+  is_final Loop p hops e = cc
+  is_final (Outside k) p hops e = cc
 
   is_loop : (v : Verdict) → verdict_outcome v ≡ refused 4 [] → loops ≡ v
-  is_loop (Final q h) e = let z : ◌≡◌ {A = ℕ} 0 1 = cc in absurd (omega arith)
+  is_loop (Final q h) e = cc
   is_loop Loop e = refl
-  is_loop (Outside k) e = let z : ◌≡◌ {A = ℕ} 5 4 = cc in absurd (omega arith)
+  is_loop (Outside k) e = cc
 
   is_outside : (v : Verdict) (k : ℕ) → verdict_outcome v ≡ refused 5 (k ∷ []) → outside k ≡ v
-  is_outside (Final q h) k e = let z : ◌≡◌ {A = ℕ} 0 1 = cc in absurd (omega arith)
-  is_outside Loop k e = let z : ◌≡◌ {A = ℕ} 4 5 = cc in absurd (omega arith)
-  is_outside (Outside j) k e = let z : k ≡ j = cc in cc
+  is_outside (Final q h) k e = cc
+  is_outside Loop k e = cc
+  is_outside (Outside j) k e = cc
 
   module _ (v : Verdict) (handed : List ℕ) (p hops : ℕ) (on : ℕ → Script)
       (further : (ignored : List Bool) (byte : ℕ) (rs : List Bool) (es : List Event) → length ignored ≡ 32 → Redirects byte → named_by byte < n

@@ -7,7 +7,7 @@ use native.Mathlib.Omega.{arith}
 use lib.Dec.{eqb, ltb}
 use lib.ListN.{length, take, drop}
 use lib.Seq.{get_or-drop}
-use borrow.Author.Tests.{lt-ltb, eqb-true, ltb-true}
+use borrow.Author.Tests.{lt-ltb, ltb-true}
 use Rattle.base_types.specs.Outcome.{Outcome}
 use Rattle.base_types.specs.declared.verdict.Verdict.{Verdict}
 use Rattle.base_types.specs.Verdict.{final, loops, outside}
@@ -17,7 +17,7 @@ use Rattle.chip_memory.proofs.Pages.{page_length}
 use Rattle.chip_chain.specs.Walk.{named_by, walk_from, walk_of}
 use Rattle.bus_scripts.specs.Next.{Next, out_of}
 use Rattle.bus_scripts.specs.Joint.{Good}
-use Rattle.bus_scripts.specs.Script.{Script, stops, check_with, Played, play, play_on, telling, leaving}
+use Rattle.bus_scripts.specs.Script.{Script, stops, Played, play_on, telling, leaving}
 use Rattle.bus_scripts.proofs.Runs.{Runs, stopped, runs_on}
 use Rattle.bus_scripts.proofs.Scripts.{good_does}
 use Rattle.chip_entries.specs.declared.event.Stage.{Stage}
@@ -28,8 +28,8 @@ use Rattle.chip_session_laws.specs.Session.{Ready, Bytes, ◌at◌, Reaches}
 use Rattle.chip_session_laws.proofs.Bus.{bus_hears}
 use Rattle.chip_session_laws.proofs.Runs.{◌then◌, stays}
 use Rattle.chip_session_laws.proofs.Slots.{ready}
-use Rattle.master_page_laws.specs.Script.{visit_script, final_script, by_byte, walk_script, page_script}
-use Rattle.master_page_laws.specs.Heard.{visit_events, visit_replies, data_events, data_replies, page_events_from, page_events_for}
+use Rattle.master_page_laws.specs.Script.{visit_script, by_byte, walk_script, page_script}
+use Rattle.master_page_laws.specs.Heard.{visit_events, visit_replies, data_events, page_events_from, page_events_for}
 use Rattle.master_page.specs.Held.{page_started}
 use Rattle.master_page_laws.specs.Laws.{page_answers_to, verdict_outcome, verdict_bytes, PageJoined}
 use Rattle.master_page_laws.proofs.Blocks.{command_length, visit_runs, final_runs}

@@ -13,6 +13,7 @@ use Rattle.base_types.specs.Refusal.{number_of, values_of}
 use Rattle.base_types.specs.declared.address.Page.{Page}
 use Rattle.base_types.proofs.Tests.{both, either, beyond}
 use Rattle.chip_memory.specs.Layout.{is_page}
+use Rattle.chip_memory.proofs.Sizes.{page_below}
 use Rattle.chip_chain.specs.Walk.{named_by}
 use Rattle.bus_scripts.proofs.Ranges.{out_means, out_is, one_less}
 use Rattle.master_page.specs.declared.Part.{Part}
@@ -24,7 +25,7 @@ use Rattle.master_page.specs.declared.PageStop.TheVariants.{PageNumber, Loop, Ou
 use Rattle.master_page.specs.declared.PageRead.{PageRead}
 use Rattle.master_page.specs.Page.{page_stop}
 use Rattle.master_page_laws.specs.Script.{read_command, crc_word}
-use Rattle.master_page.specs.Code.PageSteps.{word_shift_in, page_with, page_stopped, page_presence, after_extended_read, hopped, page_named, byte_followed, redirection_judged}
+use Rattle.master_page.specs.Code.PageSteps.{word_shift_in, page_with, page_presence, after_extended_read, hopped, page_named, byte_followed, redirection_judged}
 use Rattle.master_page.specs.Code.PageSteps.{next_data, data_judged, part_in, page_bit_in, page_closed, page_next_at, page_next, page_phase_answer}
 use Rattle.master_page.specs.PageRead.{part_in_range, part_width, page_receive_in_range, page_stop_in_range, page_phase_in_range, page_in_range, page_begun, refused_start}
 use Rattle.master_page.specs.PageRead.{start_answer, start_state, read_outcome, page_shown, read_answer, read_state, read_buffer}
@@ -37,10 +38,6 @@ pub record Within (n size : ℕ) (s : PageRead) : Type 0 where
   pub phase : page_phase_in_range n s.phase ≡ true
   pub sized : length s.bytes ≡ size
 
-page_true : (n p : ℕ) → is_page n p ≡ true → p < n
-unfolding is_page
-page_true n p h = ltb-true p n h
-
 is_page_lem : (n p : ℕ) → p < n → is_page n p ≡ true
 unfolding is_page
 is_page_lem n p h = lt-ltb p n h
@@ -51,7 +48,7 @@ unfolding page_in_range
 page_within n s h =
     let a = both (is_page n s.page.0) _ h in
     let b = both (ltb s.hops n) _ a.1 in
-    record { page = page_true n s.page.0 a.0; hops = ltb-true s.hops n b.0; phase = b.1; sized = refl }
+    record { page = page_below n s.page.0 a.0; hops = ltb-true s.hops n b.0; phase = b.1; sized = refl }
 
 pub in_range_lem : (n : ℕ) {size : ℕ} (s : PageRead) → Within n size s → page_in_range n s ≡ true
 unfolding page_in_range
@@ -112,7 +109,7 @@ module _ (n : ℕ) where
     unfolding byte_followed page_named page_phase_in_range page_receive_in_range page_stop_in_range
     follow_in b =
         either (Within n size) (eqb b 255) _ _ (λ _. with_in _ refl)
-        (λ _. either (Within n size) (is_page n (named_by b)) _ _ (λ t. hop_in (named_by b) (page_true n (named_by b) t)) (λ f. with_in _ (ap not f)))
+        (λ _. either (Within n size) (is_page n (named_by b)) _ _ (λ t. hop_in (named_by b) (page_below n (named_by b) t)) (λ f. with_in _ (ap not f)))
 
     part_in_lem : (part : Part) (v : ℕ) → Within n size (part_in n s part v)
     unfolding part_in redirection_judged next_data data_judged page_phase_in_range page_receive_in_range page_stop_in_range
@@ -154,7 +151,7 @@ module _ (n : ℕ) where
   pub started_in : 0 < n → (p : ℕ) → Within n 32 (start_state n p)
   unfolding start_state page_begun refused_start page_phase_in_range page_stop_in_range
   started_in l p =
-      either (Within n 32) (is_page n p) _ _ (λ t. record { page = page_true n p t; hops = l; phase = refl; sized = refl })
+      either (Within n 32) (is_page n p) _ _ (λ t. record { page = page_below n p t; hops = l; phase = refl; sized = refl })
       (λ _. record { page = l; hops = l; phase = refl; sized = refl })
 
   pub page_starts : 0 < n → (p : ℕ) → page_in_range n (start_state n p) ≡ true
@@ -182,17 +179,17 @@ module _ (n : ℕ) where
 
   not_2 : (phase : Phase) (page : Page) (hops : ℕ) (values : List ℕ) → read_outcome (page_phase_answer phase page hops) ≡ refused 2 values → ⊥
   unfolding page_phase_answer
-  not_2 Begin page hops values e = let z : ◌≡◌ {A = ℕ} 0 1 = cc in omega arith
-  not_2 Presence page hops values e = let z : ◌≡◌ {A = ℕ} 0 1 = cc in omega arith
-  not_2 (Command i) page hops values e = let z : ◌≡◌ {A = ℕ} 0 1 = cc in omega arith
-  not_2 (Receive part left v) page hops values e = let z : ◌≡◌ {A = ℕ} 0 1 = cc in omega arith
-  not_2 Closing page hops values e = let z : ◌≡◌ {A = ℕ} 0 1 = cc in omega arith
-  not_2 Done page hops values e = let z : ◌≡◌ {A = ℕ} 0 1 = cc in omega arith
-  not_2 (Stopped PageNumber) page hops values e = let z : ◌≡◌ {A = ℕ} 3 2 = cc in omega arith
-  not_2 (Stopped Loop) page hops values e = let z : ◌≡◌ {A = ℕ} 4 2 = cc in omega arith
-  not_2 (Stopped (Outside x)) page hops values e = let z : ◌≡◌ {A = ℕ} 5 2 = cc in omega arith
-  not_2 (Stopped Crc16) page hops values e = let z : ◌≡◌ {A = ℕ} 6 2 = cc in omega arith
-  not_2 (Stopped NoPresence) page hops values e = let z : ◌≡◌ {A = ℕ} 13 2 = cc in omega arith
+  not_2 Begin page hops values e = cc
+  not_2 Presence page hops values e = cc
+  not_2 (Command i) page hops values e = cc
+  not_2 (Receive part left v) page hops values e = cc
+  not_2 Closing page hops values e = cc
+  not_2 Done page hops values e = cc
+  not_2 (Stopped PageNumber) page hops values e = cc
+  not_2 (Stopped Loop) page hops values e = cc
+  not_2 (Stopped (Outside x)) page hops values e = cc
+  not_2 (Stopped Crc16) page hops values e = cc
+  not_2 (Stopped NoPresence) page hops values e = cc
 
   pub page_never_2 : (s : PageRead) (reply : Bool) (buffer values : List ℕ) → page_in_range n s ≡ true → read_answer n s reply buffer ≡ refused 2 values → ⊥
   unfolding read_answer
@@ -203,4 +200,4 @@ module _ (n : ℕ) where
 
       go : (room : Bool) → judge room 10 (page_shown t) ≡ refused 2 values → ⊥
       go true e = not_2 t.phase t.page t.hops values e
-      go false e = let z : ◌≡◌ {A = ℕ} 10 2 = cc in omega arith
+      go false e = cc

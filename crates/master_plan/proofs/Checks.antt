@@ -1,11 +1,10 @@
 -- The plan of a quick update judges no CRC.
-use Prim.Native.Nat.{ℕ, zero, suc, ◌+◌, ◌/◌}
-use mathlib.Core.Path.{◌≡◌, refl, ap, ◌∙◌}
+use Prim.Native.Nat.{ℕ, zero, suc, ◌/◌}
+use mathlib.Core.Path.{◌≡◌, refl}
 use mathlib.Core.Bool.{Bool, true, false, cond}
 use mathlib.Core.List.{List, [], ◌∷◌, ◌++◌}
 use lib.ListN.{get_or}
 use Rattle.base_types.specs.declared.address.Target.{Target}
-use Rattle.base_types.specs.declared.write_mode.WriteMode.{WriteMode}
 use Rattle.base_types.specs.declared.write_mode.WriteMode.TheVariants.{Quick}
 use Rattle.bus_events.specs.declared.Event.{Event}
 use Rattle.bus_events.specs.Slots.{sending}

@@ -1,10 +1,9 @@
 -- How many events the plan has.
-use Prim.Native.Nat.{ℕ, zero, suc, ◌*◌, ◌/◌, ◌≤◌, ◌<◌}
+use Prim.Native.Nat.{ℕ, zero, suc, ◌*◌, ◌/◌}
 use mathlib.Core.Path.{◌≡◌, refl, ap}
 use mathlib.Core.Bool.{Bool}
 use mathlib.Core.List.{List, [], ◌∷◌, ◌++◌}
 use native.Mathlib.Omega.{arith}
-use lib.Dec.{lit≤}
 use lib.ListN.{length, length-append}
 use Rattle.base_types.specs.Bits.{bits_of, bits_of_bytes}
 use Rattle.base_types.specs.declared.address.Target.{Target}
@@ -14,8 +13,6 @@ use Rattle.master_plan.specs.Kind.{selecting, head_count, crc_count, byte_count,
 use Rattle.master_plan.specs.Places.{head_of}
 use Rattle.master_plan.specs.Plan.{send_steps, read_steps, crc_steps, back_steps, byte_steps, bytes_steps, head_steps, write_steps, plan_of}
 use Rattle.master_plan.specs.declared.Wanted.{Wanted}
-use Rattle.master_plan.specs.declared.kind.Selection.{Selection}
-use Rattle.master_plan.specs.declared.kind.Selection.TheVariants.{SkipRom}
 use Rattle.master_plan.specs.declared.kind.UpdateKind.{UpdateKind}
 
 pub counts : Counts
@@ -28,14 +25,6 @@ counts =
       quick_total = (refl, refl);
       quick_shown = refl;
     }
-
--- a selection takes nine bytes at most, and a CRC sixteen slots
-pub few : (s : Selection) → length (selecting s) ≤ 9
-few SkipRom = lit≤ tt
-
-pub short : (mode : WriteMode) → crc_count mode ≤ 16
-short Ordinary = lit≤ tt
-short Quick = lit≤ tt
 
 pub send_length : (bytes : List ℕ) → length (send_steps bytes) ≡ 8 * length bytes
 unfolding send_steps bits_of bits_of_bytes

@@ -1,4 +1,3 @@
 pub mod At
 pub mod Checks
 pub mod Lengths
-mod Shift

@@ -3,10 +3,8 @@ use Rattle.std.specs.Prelude.{ℕ, ◌+◌, ◌-◌, ◌*◌, ◌/◌, ◌%◌, 
 use Rattle.base_types.specs.declared.address.DataAddress.{DataAddress}
 use Rattle.base_types.specs.declared.address.StatusAddress.{StatusAddress}
 use Rattle.base_types.specs.declared.address.Redirection.{Redirection}
-use Rattle.base_types.specs.declared.address.Space.{Space}
-use Rattle.base_types.specs.declared.address.Space.TheVariants.{Data, Status}
+pub use Rattle.base_types.specs.Address.{space_of, address_of}
 use Rattle.base_types.specs.declared.address.Target.{Target}
-use Rattle.base_types.specs.declared.address.Target.TheVariants.{Data as DataTarget, Status as StatusTarget}
 use Rattle.base_types.specs.declared.write_mode.WriteMode.{WriteMode}
 use Rattle.base_types.specs.WriteMode.{write_command}
 use Rattle.chip_memory.specs.declared.layout.Field.TheVariants.{UsedPages}
@@ -31,14 +29,6 @@ abbrev pub naming : ℕ → Redirection
 naming t = record { 0 = 255 - t }
 
 -- ---- a target
-
-abbrev pub space_of : Target → Space
-space_of (DataTarget a) = Data
-space_of (StatusTarget a) = Status
-
-abbrev pub address_of : Target → ℕ
-address_of (DataTarget a) = a.0
-address_of (StatusTarget a) = a.0
 
 -- the bytes of command and address that begin a write there
 abbrev pub head_of : WriteMode → Target → List ℕ

@@ -1,5 +1,5 @@
 // What an update goes by, and how many events the parts of its plan have.
-ghost use Rattle.std.specs.Prelude.{◌≡◌, length, get_or};
+ghost use Rattle.std.specs.Prelude.{◌≡◌};
 ghost use Rattle.master_plan.specs.Kind as kinds;
 ghost use Rattle.master_plan.specs.Kind.{kind_of, selecting, head_count, crc_count, byte_count, write_count, total_of};
 
@@ -51,22 +51,11 @@ pub fn quick() -> UpdateKind
 
 // ---- the bytes that select the chip
 
-pub fn selecting_count(selection: Selection) -> u16
-    ensures { result ≡ length (selecting selection) }
+pub fn selecting(selection: Selection) -> &'static [u8]
+    ensures { result.now ≡ selecting selection }
 {
     match selection {
-        Selection::SkipRom => 1,
-    }
-}
-
-pub fn selecting_byte(selection: Selection, j: u16) -> u8
-    ensures { result ≡ get_or (selecting selection) j 0 }
-{
-    match selection {
-        Selection::SkipRom => match j {
-            0 => 0xCC,
-            _ => 0,
-        },
+        Selection::SkipRom => &[0xCC],
     }
 }
 
@@ -76,8 +65,7 @@ pub fn selecting_byte(selection: Selection, j: u16) -> u8
 pub fn head_count(kind: UpdateKind) -> u16
     ensures { result ≡ head_count kind }
 {
-    let selection = kind.selection;
-    25 + 8 * selecting_count(selection)
+    25 + 8 * selecting(kind.selection).len() as u16
 }
 
 // In the CRC of a byte.
@@ -101,16 +89,14 @@ pub fn byte_count(mode: WriteMode) -> u16
 pub fn one_byte_count(kind: UpdateKind) -> u16
     ensures { result ≡ write_count kind 1 }
 {
-    let mode = kind.mode;
-    head_count(kind) + byte_count(mode)
+    head_count(kind) + byte_count(kind.mode)
 }
 
 // In a write of a page.
 pub fn full_page_count(kind: UpdateKind) -> u16
     ensures { result ≡ write_count kind 32 }
 {
-    let mode = kind.mode;
-    head_count(kind) + 32 * byte_count(mode)
+    head_count(kind) + 32 * byte_count(kind.mode)
 }
 
 // In a whole update.

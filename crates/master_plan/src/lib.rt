@@ -2,18 +2,18 @@
 // at a position.
 #![tactic(auto)]
 
-ghost use Rattle.std.specs.Prelude.{◌≡◌, ◌+◌, ◌/◌, ◌%◌, ◌<◌, get_or};
+ghost use Rattle.std.specs.Prelude.{◌≡◌, ◌+◌, ◌%◌, ◌<◌, get_or};
 ghost use Rattle.base_types.specs.Bits.{bit_at};
 ghost use Rattle.base_crc.specs.Crc.{crc16_of};
-ghost use Rattle.master_plan.specs.Kind.{byte_count};
-ghost use Rattle.master_plan.specs.Places.{bitmap_address, clearing, page_address, redirection_address, naming, space_of, address_of, head_of};
+ghost use Rattle.master_plan.specs.Places.{bitmap_address, clearing, page_address, redirection_address, naming, address_of, head_of};
 ghost use Rattle.master_plan.specs.Plan.{reset_step, pulse_step, plan_of};
-ghost use Rattle.master_plan.specs.Code.At.{send_at, crc_at, back_at, byte_at, head_byte, head_at, register_at, number_at, write_at, part_at};
+ghost use Rattle.master_plan.specs.Code.At.{send_at, read_at, byte_at, head_byte, head_at, register_at, write_at, part_at};
 
 use crate::kind::UpdateKind;
-use base_types::address::{DataAddress, Page, Redirection, Space, StatusAddress, Target};
+use base_crc::crc16;
+use base_types::address::{DataAddress, Page, Redirection, StatusAddress, Target};
+use base_types::bits;
 use base_types::write_mode::WriteMode;
-use base_types::{bits, write_mode};
 use bus_events::Event;
 use chip_memory::layout;
 use chip_memory::layout::Field;
@@ -40,6 +40,7 @@ pub struct Step {
 // ---- where an update writes, and what
 
 // The status byte with the bitmap bit of a page.
+#[tactic(auto, using(chip_memory::proofs::Sizes::first_low))]
 pub fn bitmap_address(t: Page) -> StatusAddress
     ensures is { result ≡ bitmap_address t.0 }
     ensures low { result.0 < 32768 }
@@ -56,16 +57,14 @@ fn clearing(t: Page) -> u8
 
 // The first byte of a page.
 fn page_address(t: Page) -> DataAddress
-    ensures is { result ≡ page_address t.0 }
-    ensures low { result.0 < 32768 }
+    ensures { result ≡ page_address t.0 }
 {
     DataAddress(32 * (t.0 as u16))
 }
 
 // The redirection byte of a page.
 fn redirection_address(l: Page) -> StatusAddress
-    ensures is { result ≡ redirection_address l.0 }
-    ensures low { result.0 < 32768 }
+    ensures { result ≡ redirection_address l.0 }
 {
     StatusAddress(layout::REDIRECTION_BYTES + l.0 as u16)
 }
@@ -75,24 +74,6 @@ fn naming(t: Page) -> Redirection
     ensures { result ≡ naming t.0 }
 {
     Redirection(255 - t.0)
-}
-
-fn space_of(target: Target) -> Space
-    ensures { result ≡ space_of target }
-{
-    match target {
-        Target::Data(_) => Space::Data,
-        Target::Status(_) => Space::Status,
-    }
-}
-
-fn address_of(target: Target) -> u16
-    ensures { result ≡ address_of target }
-{
-    match target {
-        Target::Data(a) => a.0,
-        Target::Status(a) => a.0,
-    }
 }
 
 // ---- a byte
@@ -123,6 +104,7 @@ fn pulse_step() -> Step
 }
 
 // Bit i of a byte that is sent.
+#[tactic(auto, unfolding(crate::specs::Code::At::send_at))]
 fn send_at(b: u8, i: u16) -> Step
     ensures { result ≡ send_at b i }
 {
@@ -132,43 +114,24 @@ fn send_at(b: u8, i: u16) -> Step
     }
 }
 
-// Bit i of a CRC that is read.
-fn crc_at(v: u16, i: u16) -> Step
-    ensures { result ≡ crc_at v i }
+// Bit i of a number that is read, or, from its last bit on, what is judged.
+#[tactic(auto, unfolding(crate::specs::Code::At::read_at))]
+fn read_at(v: u16, i: u16, last: u16, judged: Wanted) -> Step
+    ensures { result ≡ read_at v i last judged }
 {
-    let event = bus_events::read_slot();
-    if i < 15 {
-        Step {
-            event,
-            wanted: Wanted::Bit(word_bit(v, i)),
-        }
+    let wanted = if i < last {
+        Wanted::Bit(word_bit(v, i))
     } else {
-        Step {
-            event,
-            wanted: Wanted::LastCrcBit(word_bit(v, 15)),
-        }
-    }
-}
-
-// Bit i of a byte that is read back.
-fn back_at(v: u8, i: u16) -> Step
-    ensures { result ≡ back_at v i }
-{
-    let event = bus_events::read_slot();
-    if i < 7 {
-        Step {
-            event,
-            wanted: Wanted::Bit(bits::at(v, (i & 7) as u8)),
-        }
-    } else {
-        Step {
-            event,
-            wanted: Wanted::LastBackBit(bits::at(v, 7)),
-        }
+        judged
+    };
+    Step {
+        event: bus_events::read_slot(),
+        wanted,
     }
 }
 
 // A byte, its CRC, its pulse, and the byte read back.
+#[tactic(auto, unfolding(crate::specs::Code::At::byte_at))]
 fn byte_at(mode: WriteMode, register: u16, old: u8, byte: u8, i: u16) -> Step
     ensures { result ≡ byte_at mode register old byte i }
 {
@@ -178,118 +141,108 @@ fn byte_at(mode: WriteMode, register: u16, old: u8, byte: u8, i: u16) -> Step
     let after = i - 8;
     let crc = kind::crc_count(mode);
     if after < crc {
-        return crc_at(
-            base_crc::crc16::word(base_crc::crc16::byte(register, byte)),
-            after,
-        );
+        let sent = crc16::word(crc16::byte(register, byte));
+        return read_at(sent, after, 15, Wanted::LastCrcBit(word_bit(sent, 15)));
     }
     let rest = after - crc;
     if rest < 1 {
         pulse_step()
     } else {
-        back_at(old & byte, rest - 1)
+        let back = u16::from(old & byte);
+        read_at(back, rest - 1, 7, Wanted::LastBackBit(word_bit(back, 7)))
     }
 }
 
 // ---- a write
 
-// The command byte of a write to a target.
-fn command(mode: WriteMode, target: Target) -> u8
-    ensures { result ≡ get_or (head_of mode target) 0 0 }
-{
-    write_mode::command(mode, space_of(target))
+// What a write goes by, where it begins, and the byte over which each of its bytes goes.
+#[derive(Clone, Copy)]
+struct Write {
+    kind: UpdateKind,
+    target: Target,
+    old: u8,
+    ghost low: { address_of target < 32768 },
 }
 
-// Byte number j of those that select the chip and those of command and address.
-fn head_byte(kind: UpdateKind, target: Target, j: u16) -> u8
-    ensures { result ≡ head_byte kind target j }
-{
-    let mode = kind.mode;
-    let selection = kind.selection;
-    let first = kind::selecting_count(selection);
-    if j < first {
-        return kind::selecting_byte(selection, j);
+impl Write {
+    // The bytes of command and address.
+    fn head(self) -> [u8; 3]
+        ensures { result ≡ head_of self.kind.mode self.target }
+    {
+        let [low, high] = self.target.address().to_le_bytes();
+        [self.kind.mode.command(self.target.space()), low, high]
     }
-    match j - first {
-        0 => command(mode, target),
-        1 => (address_of(target) & 0xFF) as u8,
-        2 => (address_of(target) >> 8) as u8,
-        _ => 0,
-    }
-}
 
-fn head_at(kind: UpdateKind, target: Target, i: u16) -> Step
-    ensures { result ≡ head_at kind target i }
-{
-    if i < 1 {
-        reset_step()
-    } else {
-        send_at(head_byte(kind, target, (i - 1) / 8), i - 1)
+    // Byte number j of those that select the chip and those of command and address.
+    #[tactic(auto, unfolding(crate::specs::Code::At::head_byte))]
+    fn head_byte(self, j: u16) -> u8
+        ensures { result ≡ head_byte self.kind self.target j }
+    {
+        let head = self.head();
+        kind::selecting(self.kind.selection)
+            .iter()
+            .chain(&head)
+            .copied()
+            .nth(usize::from(j))
+            .unwrap_or(0)
     }
-}
 
-// The CRC register after command and address.
-fn head_register(mode: WriteMode, target: Target) -> u16
-    ensures { result ≡ crc16_of (head_of mode target) }
-{
-    let a = address_of(target);
-    let c = base_crc::crc16::byte(0, command(mode, target));
-    let l = base_crc::crc16::byte(c, (a & 0xFF) as u8);
-    base_crc::crc16::byte(l, (a >> 8) as u8)
-}
-
-// The register before byte number j of a write: that of command and address, and then the raised address, loaded.
-fn register_at(mode: WriteMode, target: Target, j: u16) -> u16
-    requires { address_of target + j < 65536 }
-    ensures { result ≡ register_at (address_of target) (crc16_of (head_of mode target)) j }
-{
-    if j < 1 {
-        head_register(mode, target)
-    } else {
-        base_crc::crc16::load(address_of(target) + j)
+    #[tactic(auto, unfolding(crate::specs::Code::At::head_at))]
+    fn head_at(self, i: u16) -> Step
+        ensures { result ≡ head_at self.kind self.target i }
+    {
+        if i < 1 {
+            reset_step()
+        } else {
+            send_at(self.head_byte((i - 1) / 8), i - 1)
+        }
     }
-}
 
-// The number of the byte to which event i of a write belongs.
-fn number_at(kind: UpdateKind, i: u16) -> u16
-    ensures { result ≡ number_at kind i }
-{
-    let mode = kind.mode;
-    let head = kind::head_count(kind);
-    if i < head {
-        0
-    } else {
-        (i - head) / kind::byte_count(mode)
+    // The CRC register after command and address. Byte by byte, since `crc16::of` copies the whole table, which made a step a fifth slower.
+    #[tactic(auto, unfolding(base_crc::specs::Crc::crc_bytes))]
+    fn head_register(self) -> u16
+        ensures { result ≡ crc16_of (head_of self.kind.mode self.target) }
+    {
+        let [command, low, high] = self.head();
+        crc16::byte(crc16::byte(crc16::byte(0, command), low), high)
     }
-}
 
-// Event i of a write whose byte with that number is this one.
-fn write_at(kind: UpdateKind, target: Target, old: u8, byte: u8, i: u16) -> Step
-    requires { address_of target < 32768 }
-    ensures { result ≡ write_at kind target old byte i }
-{
-    let mode = kind.mode;
-    let head = kind::head_count(kind);
-    if i < head {
-        return head_at(kind, target, i);
+    // The register before byte number j: that of command and address, and then the raised address, loaded.
+    #[tactic(auto, unfolding(crate::specs::Code::At::register_at))]
+    fn register_at(self, j: u16) -> u16
+        requires { j < 32768 }
+        ensures { result ≡ register_at (address_of self.target) (crc16_of (head_of self.kind.mode self.target)) j }
+    {
+        if j < 1 {
+            self.head_register()
+        } else {
+            crc16::load(self.target.address() + j)
+        }
     }
-    byte_at(
-        mode,
-        register_at(mode, target, number_at(kind, i)),
-        old,
-        byte,
-        (i - head) % kind::byte_count(mode),
-    )
+
+    // Event i, where these are the bytes that are written.
+    #[tactic(auto, unfolding(crate::specs::Code::At::write_at))]
+    fn at(self, bytes: &[u8], i: u16) -> Step
+        ensures { result ≡ write_at self.kind self.target self.old bytes.now i }
+    {
+        let head = kind::head_count(self.kind);
+        if i < head {
+            return self.head_at(i);
+        }
+        let count = kind::byte_count(self.kind.mode);
+        let j = (i - head) / count;
+        let byte = bytes.get(usize::from(j)).copied().unwrap_or(0);
+        byte_at(
+            self.kind.mode,
+            self.register_at(j),
+            self.old,
+            byte,
+            (i - head) % count,
+        )
+    }
 }
 
 // ---- the three writes and the closing reset
-
-fn new_byte(new: [u8; 32], j: u16) -> u8
-    ensures { result ≡ get_or new j 0 }
-{
-    let at = j as usize;
-    if at < 32 { new[at] } else { 0 }
-}
 
 // To which part of the plan an event belongs, and which it is of that part: the write of the bitmap byte, that of the new page, that of the
 // redirection byte, and the closing reset.
@@ -301,6 +254,7 @@ pub enum Part {
     Closing,
 }
 
+#[tactic(auto, unfolding(crate::specs::Code::At::part_at))]
 fn part_at(kind: UpdateKind, k: u16) -> Part
     ensures { result ≡ part_at kind k }
 {
@@ -322,24 +276,37 @@ fn part_at(kind: UpdateKind, k: u16) -> Part
 }
 
 // Event number k, counted from 0, of the plan that puts the bytes new into page t in the place of page l; used is t's bitmap byte.
+#[tactic(auto, using(crate::proofs::At::plan_at))]
 pub fn step_at(kind: UpdateKind, l: Page, t: Page, used: u8, new: [u8; 32], k: u16) -> Step
     ensures { result ≡ get_or (plan_of kind l.0 t.0 used new) k reset_step }
 {
     match part_at(kind, k) {
-        Part::Bitmap(i) => write_at(
-            kind,
-            Target::Status(bitmap_address(t)),
-            used,
-            clearing(t),
-            i,
-        ),
+        Part::Bitmap(i) => {
+            let target = Target::Status(bitmap_address(t));
+            let write = Write {
+                kind,
+                target,
+                old: used,
+            };
+            write.at(&[clearing(t)], i)
+        }
         Part::NewPage(i) => {
-            let byte = new_byte(new, number_at(kind, i));
-            write_at(kind, Target::Data(page_address(t)), 255, byte, i)
+            let target = Target::Data(page_address(t));
+            let write = Write {
+                kind,
+                target,
+                old: 255,
+            };
+            write.at(&new, i)
         }
         Part::Link(i) => {
-            let byte = naming(t);
-            write_at(kind, Target::Status(redirection_address(l)), 255, byte.0, i)
+            let target = Target::Status(redirection_address(l));
+            let write = Write {
+                kind,
+                target,
+                old: 255,
+            };
+            write.at(&[naming(t).0], i)
         }
         Part::Closing => reset_step(),
     }

@@ -1,5 +1,5 @@
 -- The bytes of an accepted update as the chip programs them: they give the images of the update, and this is what is read back.
-use Prim.Native.Nat.{ℕ, zero, suc, ◌+◌, ◌-◌, ◌*◌, ◌/◌, ◌%◌, ◌^◌, ◌<◌, ◌≤◌}
+use Prim.Native.Nat.{ℕ, zero, suc, ◌+◌, ◌-◌, ◌*◌, ◌/◌, ◌%◌, ◌<◌, ◌≤◌}
 use mathlib.Core.Path.{◌≡◌, refl, sym, ap, ◌∙◌}
 use mathlib.Core.Bool.{true}
 use mathlib.Core.List.{List, [], ◌∷◌}
@@ -10,10 +10,11 @@ use lib.Dec.{eqb}
 use lib.ListN.{length, get_or, drop, set, length-set}
 use lib.Seq.{get_or-set_same, get_or-set_other, get_or-take, get_or-drop}
 use borrow.Author.Tests.{eqb-true, lt-ltb, le-ltb}
+use Rattle.std.proofs.lemmas.Bool.Decides.{nat_tests}
 use Rattle.base_types.specs.Bits.{bit_at}
 use Rattle.base_types.specs.declared.address.Space.TheVariants.{Data as DataSpace}
 use Rattle.base_types.specs.declared.address.Target.{Target}
-use Rattle.base_types.specs.declared.address.Target.TheVariants.{Data, Status}
+use Rattle.base_types.specs.declared.address.Target.TheVariants.{Status}
 use Rattle.chip_memory.specs.declared.layout.Field.{Field}
 use Rattle.chip_memory.specs.declared.layout.Field.TheVariants.{DataProtection, RedirectionProtection, UsedPages}
 use Rattle.chip_memory.specs.Layout.{image_size, status_index, first_address, is_within, is_held}
@@ -76,16 +77,7 @@ module _ (n : ℕ) where
 
   bitmap_held : n % 8 ≡ 0 → n ≤ 256 → (t : ℕ) → t < n → is_held n (bitmap_address t).0 ≡ true
   unfolding is_held is_within first_address
-  bitmap_held whole low t lt =
-      simp (
-        lt-ltb (0x40 + t / 8) 0x100 (omega arith),
-        le-ltb (0x40 + t / 8) 0 (omega arith),
-        le-ltb (0x40 + t / 8 - 0) (n / 8) (omega arith),
-        le-ltb (0x40 + t / 8) 0x20 (omega arith),
-        le-ltb (0x40 + t / 8 - 0x20) (n / 8) (omega arith),
-        le-ltb (0x40 + t / 8) 0x40 (omega arith),
-        lt-ltb (0x40 + t / 8 - 0x40) (n / 8) (omega arith),
-      )
+  bitmap_held whole low t lt = grind (arith, nat_tests)
 
 module _ (n : ℕ) (whole : n % 8 ≡ 0) (img new : List ℕ) (l t : ℕ) (ok : Accepted n img new l t) (free : Free n img t)
     (unprotected : page_bit n RedirectionProtection img l ≡ true) (small : (i : ℕ) → get_or new i 0 < 256) where

@@ -7,6 +7,7 @@ use native.Mathlib.Omega.{arith}
 use lib.Dec.{eqb}
 use lib.ListN.{length}
 use borrow.Author.Tests.{eqb-true, eq-eqb, ne_eqb, lt-ltb, le-ltb}
+use Rattle.std.specs.Prelude.{Option, Some, None, Ok, Err}
 use Rattle.base_types.specs.Outcome.{refused}
 use Rattle.base_types.specs.Refusal.{number_of}
 use Rattle.base_types.specs.declared.address.Page.{Page}
@@ -16,8 +17,6 @@ use Rattle.chip_memory.specs.declared.layout.Field.TheVariants.{DataProtection, 
 use Rattle.chip_memory.specs.Layout.{image_size, is_image, is_page}
 use Rattle.chip_memory.specs.Image.{redirection_of, page_bit}
 use Rattle.chip_memory.proofs.Sizes.{image_length, page_below}
-use Rattle.chip_chain.specs.declared.free.Found.{Found}
-use Rattle.chip_chain.specs.declared.free.Found.TheVariants.{At, Nothing}
 use Rattle.chip_chain.specs.Walk.{walk_of}
 use Rattle.chip_chain.specs.Chain.{EndsFinal}
 use Rattle.chip_chain.specs.Free.{Free}
@@ -32,9 +31,7 @@ use Rattle.master_publisher.specs.declared.PublisherStop.{PublisherStop}
 use Rattle.master_publisher.specs.declared.PublisherStop.TheVariants.{ImageLength, PageNumber, Loop as Looping, Outside as Leaving, NoFreePage}
 use Rattle.master_publisher.specs.declared.PublisherStop.TheVariants.{RedirectionProtected, BufferLength, DataProtected}
 use Rattle.master_publisher.specs.Stop.{publisher_refusal}
-use Rattle.master_publisher.specs.declared.Choice.{Choice}
-use Rattle.master_publisher.specs.declared.Choice.TheVariants.{Refused, Accepted as Chosen}
-use Rattle.master_publisher.specs.Start.{target_by, found_choice, choice_free, choice_final, choice_walked, choice_of, choice_outcome, publisher_answer}
+use Rattle.master_publisher.specs.Start.{Choice, target_by, found_choice, choice_free, choice_final, choice_walked, choice_of, choice_outcome, publisher_answer}
 use Rattle.master_plan_laws.specs.Start.{Open, Closed, StartLaws}
 
 -- what a placement chooses is a free page of the chip other than l
@@ -43,24 +40,23 @@ pub record Placed (n : ℕ) (img : List ℕ) (l t : ℕ) : Type 0 where
   pub free : Free n img t
   pub apart : t ≡ l → ⊥
 
-pub placed_means : (place : Placement) (n : ℕ) (img : List ℕ) (l t : ℕ) → target_by place n img l ≡ At (record { 0 = t }) → Placed n img l t
+pub placed_means : (place : Placement) (n : ℕ) (img : List ℕ) (l t : ℕ) → target_by place n img l ≡ Some (record { 0 = t }) → Placed n img l t
 placed_means LowestFree n img l t f = let m = found_means n img l t f in record { on_chip = m.on_chip; free = m.free; apart = m.apart }
 
 module _ (l t : Page) where
-  not_chosen : {A : Type 0} (r : PublisherStop) → Refused r ≡ Chosen l t → A
-  not_chosen r h = absurd (let z : ◌≡◌ {A = ℕ} 0 1 = cc in omega arith)
-
   -- a test that refuses where it fails has held
-  passed : (b : Bool) (x : Choice) (r : PublisherStop) → cond b x (Refused r) ≡ Chosen l t → (b ≡ true) × (x ≡ Chosen l t)
+  passed : (b : Bool) (x : Choice) (r : PublisherStop) → cond b x (Err r) ≡ Ok (l, t) → (b ≡ true) × (x ≡ Ok (l, t))
   passed true x r h = (refl, h)
-  passed false x r h = not_chosen r h
+  passed false x r h = cc
 
-  free_found : (m : Page) (f : Found) → found_choice m f ≡ Chosen l t → (m ≡ l) × (f ≡ At t)
+  free_found : (m : Page) (f : Option Page) → found_choice m f ≡ Ok (l, t) → (m ≡ l) × (f ≡ Some t)
   unfolding found_choice
-  free_found m (At q) h = (cc, cc)
-  free_found m Nothing h = not_chosen NoFreePage h
+  free_found m (Some q) h =
+      let pair : ◌≡◌ {A = Page × Page} (m, q) (l, t) = cc in
+      (ap (λ (x : Page × Page). x.0) pair, ap (λ (x : Page × Page). Some x.1) pair)
+  free_found m None h = cc
 
-  pub chosen_means : (n : ℕ) (kind : UpdateKind) (img new : List ℕ) (p : ℕ) → choice_of n kind.placement img new p ≡ Chosen l t → Open n kind img new p l t
+  pub chosen_means : (n : ℕ) (kind : UpdateKind) (img new : List ℕ) (p : ℕ) → choice_of n kind.placement img new p ≡ Ok (l, t) → Open n kind img new p l t
   unfolding choice_of choice_walked choice_final choice_free
   chosen_means n kind img new p h =
       let a = passed (is_image n img) _ ImageLength h in
@@ -68,15 +64,15 @@ module _ (l t : Page) where
       let c = passed (is_page n p) _ PageNumber b.1 in
       walked (image_length n img a.0) (eqb-true (length new) 32 b.0) (page_below n p c.0) (walk_of n img p) refl c.1
     where
-      walked : length img ≡ image_size n → length new ≡ 32 → p < n → (v : Verdict) → walk_of n img p ≡ v → choice_walked n kind.placement img v ≡ Chosen l t → Open n kind img new p l t
+      walked : length img ≡ image_size n → length new ≡ 32 → p < n → (v : Verdict) → walk_of n img p ≡ v → choice_walked n kind.placement img v ≡ Ok (l, t) → Open n kind img new p l t
       walked a b c (Final m k) w r =
           let d = passed (page_bit n DataProtection img m.0) _ (DataProtected m) r in
           let o = passed (page_bit n RedirectionProtection img m.0) _ (RedirectionProtected m) d.1 in
           let f = free_found m (target_by kind.placement n img m.0) o.1 in
           let found : Open n kind img new p m t = record { hops = k; size = a; long = b; on_chip = c; walk = w; data_open = d.0; redirection_open = o.0; found = f.1 } in
           rw f.0 at found
-      walked a b c Loop w r = not_chosen Looping r
-      walked a b c (Outside x) w r = not_chosen (Leaving x) r
+      walked a b c Loop w r = cc
+      walked a b c (Outside x) w r = cc
 
 module _ (n : ℕ) (kind : UpdateKind) (img new : List ℕ) (p : ℕ) (l t : Page) (low : n ≤ 256) (m : Open n kind img new p l t) where
   pub is_accepted : Accepted n img new l.0 t.0
@@ -104,7 +100,7 @@ module _ (n : ℕ) (kind : UpdateKind) (img new : List ℕ) (p : ℕ) where
   unfolding choice_of is_image is_page
   walked size long low = simp (eq-eqb (length img) (image_size n) size, eq-eqb (length new) 32 long, lt-ltb p n low)
 
-  chooses : (l t : Page) → Open n kind img new p l t → choice_of n kind.placement img new p ≡ Chosen l t
+  chooses : (l t : Page) → Open n kind img new p l t → choice_of n kind.placement img new p ≡ Ok (l, t)
   unfolding choice_walked choice_final choice_free found_choice
   chooses l t o = walked o.size o.long o.on_chip ∙ simp (o.walk, o.data_open, o.redirection_open, o.found)
 
@@ -141,7 +137,7 @@ module _ (n : ℕ) (kind : UpdateKind) (img new : List ℕ) (p : ℕ) where
     guarded l hops w d r = ap choice_outcome (walked size long low) ∙ simp (w, d, r)
 
     all_used : (l : Page) (hops : ℕ) → walk_of n img p ≡ Final l hops → page_bit n DataProtection img l.0 ≡ true → page_bit n RedirectionProtection img l.0 ≡ true
-        → target_by kind.placement n img l.0 ≡ Nothing → publisher_answer n kind img new p ≡ refused 8 []
+        → target_by kind.placement n img l.0 ≡ None → publisher_answer n kind img new p ≡ refused 8 []
     unfolding choice_walked choice_final choice_free found_choice
     all_used l hops w d r f = ap choice_outcome (walked size long low) ∙ simp (w, d, r, f)
 
@@ -151,21 +147,21 @@ module _ (n : ℕ) (kind : UpdateKind) (img new : List ℕ) (p : ℕ) where
     abbrev Tells : Choice → Type 0
     Tells c = choice_outcome c ≡ refused 20 values
 
-    told_by : {A : Type 0} (r : PublisherStop) → (number_of (publisher_refusal r) ≡ 20 → ⊥) → Tells (Refused r) → A
+    told_by : {A : Type 0} (r : PublisherStop) → (number_of (publisher_refusal r) ≡ 20 → ⊥) → Tells (Err r) → A
     told_by r not-20 h = absurd (not-20 cc)
 
     -- a test with another number has held
-    beyond : (b : Bool) (x : Choice) (r : PublisherStop) → (number_of (publisher_refusal r) ≡ 20 → ⊥) → Tells (cond b x (Refused r)) → Tells x
+    beyond : (b : Bool) (x : Choice) (r : PublisherStop) → (number_of (publisher_refusal r) ≡ 20 → ⊥) → Tells (cond b x (Err r)) → Tells x
     beyond true x r not-20 h = h
     beyond false x r not-20 h = told_by r not-20 h
 
-    free_tells_not : {A : Type 0} (l : Page) (f : Found) → Tells (found_choice l f) → A
+    free_tells_not : {A : Type 0} (l : Page) (f : Option Page) → Tells (found_choice l f) → A
     unfolding found_choice
-    free_tells_not l (At t) h = absurd (let z : ◌≡◌ {A = ℕ} 0 1 = cc in omega arith)
-    free_tells_not l Nothing h = told_by NoFreePage (λ e. omega arith) h
+    free_tells_not l (Some t) h = cc
+    free_tells_not l None h = told_by NoFreePage (λ e. omega arith) h
 
     final_tells : (l : Page) (hops : ℕ) → walk_of n img p ≡ Final l hops → (bit : Bool) → page_bit n DataProtection img l.0 ≡ bit
-        → Tells (cond bit (cond (page_bit n RedirectionProtection img l.0) (choice_free n kind.placement img l) (Refused (RedirectionProtected l))) (Refused (DataProtected l)))
+        → Tells (cond bit (cond (page_bit n RedirectionProtection img l.0) (choice_free n kind.placement img l) (Err (RedirectionProtected l))) (Err (DataProtected l)))
         → Closed n img p values
     unfolding choice_free
     final_tells l hops w true e h = free_tells_not l (target_by kind.placement n img l.0) (beyond (page_bit n RedirectionProtection img l.0) _ (RedirectionProtected l) (λ e. omega arith) h)

@@ -1,5 +1,5 @@
 -- The plan of an accepted update on a chip whose image was lent to the start, over the page count n and the kind of the update.
-use Rattle.std.specs.Prelude.{ℕ, ◌-◌, ◌<◌, ◌≡◌, Bool, false, cond, List, [], ◌∷◌, ltb, length, get_or, take}
+use Rattle.std.specs.Prelude.{ℕ, ◌-◌, ◌<◌, ◌≡◌, Bool, false, cond, List, [], ◌∷◌, Ok, ltb, length, get_or, take}
 use Rattle.std.specs.Int.Bits.{bit_and}
 use Rattle.base_types.specs.declared.address.Page.{Page}
 use Rattle.base_types.specs.Verdict.{final}
@@ -13,7 +13,6 @@ use Rattle.master_plan.specs.declared.kind.UpdateKind.{UpdateKind}
 use Rattle.master_plan.specs.Kind.{total_of, shown_of}
 use Rattle.master_plan.specs.Places.{clearing}
 use Rattle.master_plan.specs.Plan.{plan_of, step_events}
-use Rattle.master_publisher.specs.declared.Choice.TheVariants.{Accepted}
 use Rattle.master_publisher.specs.Start.{choice_of, bitmap_byte}
 use Rattle.chip_entries.specs.Run.{Chip, next, run, line_at}
 use Rattle.chip_session_laws.specs.Session.{Ready, Bytes}
@@ -35,7 +34,7 @@ Fits n c (s ∷ ss) = Meets s.wanted (line_at n c s.event) × Fits n (next n c s
 pub record Accepts (n : ℕ) (kind : UpdateKind) (c : Chip) (new : List ℕ) (p : ℕ) (l t : Page) : Type 0 where
   pub ready : Ready n c
   pub new_bytes : Bytes new
-  pub chosen : choice_of n kind.placement c.image new p ≡ Accepted l t
+  pub chosen : choice_of n kind.placement c.image new p ≡ Ok (l, t)
 
 -- the plan that the start's state has
 abbrev pub plan_for : ℕ → UpdateKind → Chip → List ℕ → Page → Page → List Step

@@ -1,10 +1,13 @@
 -- The publisher's later calls, over the page count n.
-use Rattle.std.specs.Prelude.{ℕ, Bool, true, false, not, cond, List, [], ◌∷◌, leb}
-use Rattle.base_types.specs.Outcome.{Outcome, accepted, refusing, judge}
+use Rattle.std.specs.Prelude.{ℕ, Bool, true, false, not, cond, List, [], ◌∷◌, Result, leb}
+use Rattle.base_types.specs.Outcome.{Outcome, judge}
+use Rattle.base_types.specs.declared.address.Page.{Page}
+use Rattle.base_types.specs.declared.refusal.Refusal.{Refusal}
 use Rattle.base_types.specs.declared.write_mode.WriteMode.{WriteMode}
 use Rattle.base_types.specs.declared.write_mode.WriteMode.TheVariants.{Ordinary, Quick}
 use Rattle.chip_memory.specs.Layout.{is_page}
-use Rattle.bus_scripts.specs.Next.{Next, send, tells}
+use Rattle.bus_events.specs.declared.Next.{Next as CodeNext}
+use Rattle.bus_scripts.specs.Next.{Next, next_outcome}
 use Rattle.master_plan.specs.declared.kind.UpdateKind.{UpdateKind}
 use Rattle.master_plan.specs.Kind.{total_of}
 use Rattle.master_publisher.specs.declared.PublisherStop.{PublisherStop}
@@ -13,8 +16,6 @@ use Rattle.master_publisher.specs.declared.PublisherStop.TheVariants.{Redirectio
 use Rattle.master_publisher.specs.declared.Stage.{Stage}
 use Rattle.master_publisher.specs.declared.Stage.TheVariants.{Running, Done, Stopped}
 use Rattle.master_publisher.specs.declared.Publisher.{Publisher}
-use Rattle.master_publisher.specs.declared.Answer.{Answer}
-use Rattle.master_publisher.specs.declared.Answer.TheVariants.{Send, Published, Refused}
 use Rattle.master_publisher.specs.Code.Turn.{plan_in, total_in, turn_of}
 
 -- ---- ranges
@@ -50,10 +51,8 @@ publisher_in_range n s =
 -- ---- the entry
 
 -- the end tells L and T
-abbrev pub turn_outcome : Answer → Outcome Next
-turn_outcome (Send e) = accepted (send e)
-turn_outcome (Published l t) = accepted (tells (l.0 ∷ t.0 ∷ []))
-turn_outcome (Refused r) = refusing r
+abbrev pub turn_outcome : Result (CodeNext (Page × Page)) Refusal → Outcome Next
+turn_outcome = next_outcome (λ pages. pages.0.0 ∷ pages.1.0 ∷ [])
 
 -- 2, or the turn's answer
 unfoldable pub call_answer : ℕ → Publisher → Bool → Outcome Next

@@ -3,22 +3,24 @@
 // CRC or byte is judged at its last bit.
 #![tactic(auto)]
 
-ghost use Rattle.std.specs.Prelude.{◌≡◌, replicate};
+ghost use Rattle.std.specs.Prelude.{◌≡◌, Ok, replicate};
+ghost use Rattle.bus_events.specs.declared.Next.TheVariants.{End};
 ghost use Rattle.chip_memory.specs.Layout.{page_count};
+ghost use Rattle.chip_memory.specs.Memory.{bytes, pages};
 ghost use Rattle.chip_memory.specs.Page.{copied};
 ghost use Rattle.master_publisher.specs.Stop.{publisher_refusal};
-ghost use Rattle.master_publisher.specs.Start.{target_by, choice_free, choice_final, choice_walked, choice_of, bitmap_byte, ready, stopped_by, start_outcome};
+ghost use Rattle.master_publisher.specs.Start.{target_by, choice_of, bitmap_byte, ready, stopped_by, start_outcome};
 ghost use Rattle.master_publisher.specs.Start.{publisher_answer, publisher_state};
-ghost use Rattle.master_publisher.specs.Code.Turn.{plan_in, total_in, step_of, wanted_of, judged_last, judged_presence, judged_of, at_stage, gone_on, judged_turn, turn_of};
+ghost use Rattle.master_publisher.specs.Code.Turn.{plan_in, total_in, step_of, wanted_of, judged_last, judged_of, at_stage, gone_on, turn_of};
 ghost use Rattle.master_publisher.specs.Call.{reads_crc, stop_in_range, stage_in_range, publisher_in_range, turn_outcome, call_answer, call_state};
 
 use base_types::address::Page;
-use base_types::bits;
 use base_types::refusal::Refusal;
+use base_types::stepped::Stepped;
 use base_types::verdict::Verdict;
 use base_types::write_mode::WriteMode;
-use bus_events::Event;
-use chip_chain::free::Found;
+use bus_events::Next;
+use chip_memory::image::Memory;
 use chip_memory::layout::Field;
 use chip_memory::{image, layout};
 use master_plan::kind::{Placement, UpdateKind};
@@ -41,21 +43,23 @@ pub enum PublisherStop {
 }
 
 // The refusal that tells it.
-pub fn refusal_of(stop: PublisherStop) -> Refusal
-    ensures { result ≡ publisher_refusal stop }
-{
-    match stop {
-        PublisherStop::ImageLength => Refusal::ImageLength,
-        PublisherStop::PageNumber => Refusal::PageNumber,
-        PublisherStop::Loop => Refusal::Loop,
-        PublisherStop::Outside(x) => Refusal::Outside(x),
-        PublisherStop::Crc16 => Refusal::Crc16,
-        PublisherStop::ReadBack => Refusal::ReadBack,
-        PublisherStop::NoFreePage => Refusal::NoFreePage,
-        PublisherStop::RedirectionProtected(l) => Refusal::RedirectionProtected(l),
-        PublisherStop::BufferLength => Refusal::BufferLength,
-        PublisherStop::NoPresence => Refusal::NoPresence,
-        PublisherStop::DataProtected(l) => Refusal::DataProtected(l),
+impl From<PublisherStop> for Refusal {
+    ghost from_gives = { λ stop refusal. refusal ≡ publisher_refusal stop };
+
+    fn from(stop: PublisherStop) -> Refusal {
+        match stop {
+            PublisherStop::ImageLength => Refusal::ImageLength,
+            PublisherStop::PageNumber => Refusal::PageNumber,
+            PublisherStop::Loop => Refusal::Loop,
+            PublisherStop::Outside(x) => Refusal::Outside(x),
+            PublisherStop::Crc16 => Refusal::Crc16,
+            PublisherStop::ReadBack => Refusal::ReadBack,
+            PublisherStop::NoFreePage => Refusal::NoFreePage,
+            PublisherStop::RedirectionProtected(l) => Refusal::RedirectionProtected(l),
+            PublisherStop::BufferLength => Refusal::BufferLength,
+            PublisherStop::NoPresence => Refusal::NoPresence,
+            PublisherStop::DataProtected(l) => Refusal::DataProtected(l),
+        }
     }
 }
 
@@ -78,107 +82,62 @@ pub struct Publisher {
     pub new: [u8; 32],
 }
 
-#[derive(Clone, Copy)]
-pub enum StartAnswer {
-    Refused(Refusal),
-    Ready,
-}
-
-#[derive(Clone, Copy)]
-pub struct Started {
-    pub answer: StartAnswer,
-    pub state: Publisher,
-}
-
-#[derive(Clone, Copy)]
-pub enum Answer {
-    Send(Event),
-    Published(Page, Page),
-    Refused(Refusal),
-}
-
-#[derive(Clone, Copy)]
-pub struct Stepped {
-    pub answer: Answer,
-    pub state: Publisher,
-}
+// What a later call tells, and the state after it.
+pub type Turn = Stepped<Result<Next<(Page, Page)>, Refusal>, Publisher>;
 
 // ---- the start
 
-// L and T, or why there is no update.
-#[derive(Clone, Copy)]
-pub enum Choice {
-    Refused(PublisherStop),
-    Accepted(Page, Page),
-}
-
 // T, by the placement.
-fn target(image: &[u8], last: Page, placement: Placement, l: Page) -> Found
-    ensures { result ≡ target_by placement (page_count last) image.now l.0 }
+fn target(memory: &Memory<'_>, placement: Placement, l: Page) -> Option<Page>
+    ensures { result ≡ target_by placement (pages memory.now) (bytes memory.now) l.0 }
 {
     match placement {
-        Placement::LowestFree => chip_chain::free::lowest_free(image, last, l),
+        Placement::LowestFree => chip_chain::free::lowest_free(memory, l),
     }
 }
 
-fn choose_free(image: &[u8], last: Page, placement: Placement, l: Page) -> Choice
-    ensures { result ≡ choice_free (page_count last) placement image.now l }
+// L and T, or why there is no update.
+#[tactic(auto, unfolding(crate::specs::Start::choice_of, crate::specs::Start::choice_walked, crate::specs::Start::choice_final, crate::specs::Start::choice_free, crate::specs::Start::found_choice))]
+fn choose(
+    memory: &Memory<'_>,
+    placement: Placement,
+    new: &[u8],
+    page: Page,
+) -> Result<(Page, Page), PublisherStop>
+    ensures { result ≡ choice_of (pages memory.now) placement (bytes memory.now) new.now page.0 }
 {
-    match target(image, last, placement, l) {
-        Found::At(t) => Choice::Accepted(l, t),
-        Found::Nothing => Choice::Refused(PublisherStop::NoFreePage),
-    }
-}
-
-fn choose_final(image: &[u8], last: Page, placement: Placement, l: Page) -> Choice
-    ensures { result ≡ choice_final (page_count last) placement image.now l }
-{
-    if !image::page_bit(image, last, Field::DataProtection, l) {
-        return Choice::Refused(PublisherStop::DataProtected(l));
-    }
-    if !image::page_bit(image, last, Field::RedirectionProtection, l) {
-        return Choice::Refused(PublisherStop::RedirectionProtected(l));
-    }
-    choose_free(image, last, placement, l)
-}
-
-fn choose_walked(image: &[u8], last: Page, placement: Placement, v: Verdict) -> Choice
-    ensures { result ≡ choice_walked (page_count last) placement image.now v }
-{
-    match v {
-        Verdict::Final(l, _) => choose_final(image, last, placement, l),
-        Verdict::Loop => Choice::Refused(PublisherStop::Loop),
-        Verdict::Outside(x) => Choice::Refused(PublisherStop::Outside(x)),
-    }
-}
-
-fn choose(image: &[u8], last: Page, placement: Placement, new: &[u8], page: Page) -> Choice
-    ensures { result ≡ choice_of (page_count last) placement image.now new.now page.0 }
-{
-    if !layout::is_image(image, last) {
-        return Choice::Refused(PublisherStop::ImageLength);
+    if !layout::is_image(memory.image, memory.last) {
+        return Err(PublisherStop::ImageLength);
     }
     if new.len() != 32 {
-        return Choice::Refused(PublisherStop::BufferLength);
+        return Err(PublisherStop::BufferLength);
     }
-    if !layout::is_page(last, page) {
-        return Choice::Refused(PublisherStop::PageNumber);
+    if !layout::is_page(memory.last, page) {
+        return Err(PublisherStop::PageNumber);
     }
-    choose_walked(
-        image,
-        last,
-        placement,
-        chip_chain::walk::walk(image, last, page),
-    )
+    let l = match chip_chain::walk::walk(memory, page) {
+        Verdict::Final(l, _) => l,
+        Verdict::Loop => return Err(PublisherStop::Loop),
+        Verdict::Outside(x) => return Err(PublisherStop::Outside(x)),
+    };
+    if !memory.page_bit(Field::DataProtection, l) {
+        return Err(PublisherStop::DataProtected(l));
+    }
+    if !memory.page_bit(Field::RedirectionProtection, l) {
+        return Err(PublisherStop::RedirectionProtected(l));
+    }
+    let t = target(memory, placement, l).ok_or(PublisherStop::NoFreePage)?;
+    Ok((l, t))
 }
 
 // The byte with the bitmap bit of a page.
-fn bitmap_byte(image: &[u8], last: Page, t: Page) -> u8
-    ensures { result ≡ bitmap_byte (page_count last) image.now t.0 }
+#[tactic(auto, unfolding(crate::specs::Start::bitmap_byte))]
+fn bitmap_byte(memory: &Memory<'_>, t: Page) -> u8
+    ensures { result ≡ bitmap_byte (pages memory.now) (bytes memory.now) t.0 }
 {
     image::byte_at(
-        image,
-        layout::status_index(last, master_plan::bitmap_address(t)),
+        memory.image,
+        layout::status_index(memory.last, master_plan::bitmap_address(t)),
     )
 }
 
@@ -190,21 +149,21 @@ fn kept(new: &[u8]) -> [u8; 32]
     bytes
 }
 
-fn make_ready(image: &[u8], last: Page, kind: UpdateKind, new: &[u8], l: Page, t: Page) -> Publisher
-    ensures { result ≡ ready (page_count last) kind image.now new.now l t }
+#[tactic(auto, unfolding(crate::specs::Start::ready))]
+fn make_ready(memory: &Memory<'_>, kind: UpdateKind, new: &[u8], l: Page, t: Page) -> Publisher
+    ensures { result ≡ ready (pages memory.now) kind (bytes memory.now) new.now l t }
 {
-    let used = bitmap_byte(image, last, t);
-    let bytes = kept(new);
     Publisher {
         kind,
         stage: Stage::Running(0, true),
         superseded: l,
         target: t,
-        used,
-        new: bytes,
+        used: bitmap_byte(memory, t),
+        new: kept(new),
     }
 }
 
+#[tactic(auto, unfolding(crate::specs::Start::stopped_by))]
 fn make_stopped(kind: UpdateKind, stop: PublisherStop) -> Publisher
     ensures { result ≡ stopped_by kind stop }
 {
@@ -220,19 +179,28 @@ fn make_stopped(kind: UpdateKind, stop: PublisherStop) -> Publisher
 
 // The start reads the image and the new bytes, writes neither, and gives a state and no event.
 // Refused, in every kind: 1, 10, 3, 4, 5, 20, 9, 8; the state then repeats that.
-pub fn start(kind: UpdateKind, image: &[u8], new: &[u8], page: Page) -> Started
+#[tactic(auto, unfolding(crate::specs::Start::choice_state))]
+pub fn start(
+    kind: UpdateKind,
+    image: &[u8],
+    new: &[u8],
+    page: Page,
+) -> Stepped<Result<(), Refusal>, Publisher>
     ensures answer { start_outcome result.answer ≡ publisher_answer 64 kind image.now new.now page.0 }
     ensures state { result.state ≡ publisher_state 64 kind image.now new.now page.0 }
 {
-    let placement = kind.placement;
-    match choose(image, Page(layout::DS2505), placement, new, page) {
-        Choice::Refused(stop) => Started {
-            answer: StartAnswer::Refused(refusal_of(stop)),
-            state: make_stopped(kind, stop),
+    let memory = Memory {
+        image,
+        last: layout::DS2505,
+    };
+    match choose(&memory, kind.placement, new, page) {
+        Ok((l, t)) => Stepped {
+            answer: Ok(()),
+            state: make_ready(&memory, kind, new, l, t),
         },
-        Choice::Accepted(l, t) => Started {
-            answer: StartAnswer::Ready,
-            state: make_ready(image, Page(layout::DS2505), kind, new, l, t),
+        Err(stop) => Stepped {
+            answer: Err(Refusal::from(stop)),
+            state: make_stopped(kind, stop),
         },
     }
 }
@@ -240,113 +208,69 @@ pub fn start(kind: UpdateKind, image: &[u8], new: &[u8], page: Page) -> Started
 // ---- a reply
 
 // What a reply leads to: on, with whether the bits so far agree; or what stops it.
-#[derive(Clone, Copy)]
-pub enum Judged {
-    On(bool),
-    Stop(PublisherStop),
-}
-
-fn judge_last(good: bool, stop: PublisherStop) -> Judged
+#[tactic(auto, unfolding(crate::specs::Code::Turn::judged_last))]
+fn judge_last(good: bool, stop: PublisherStop) -> Result<bool, PublisherStop>
     ensures { result ≡ judged_last good stop }
 {
-    if good {
-        Judged::On(true)
-    } else {
-        Judged::Stop(stop)
-    }
+    if good { Ok(true) } else { Err(stop) }
 }
 
-fn judge_presence(reply: bool) -> Judged
-    ensures { result ≡ judged_presence reply }
-{
-    if reply {
-        Judged::Stop(PublisherStop::NoPresence)
-    } else {
-        Judged::On(true)
-    }
-}
-
-fn judge(wanted: Wanted, good: bool, reply: bool) -> Judged
+#[tactic(auto, unfolding(crate::specs::Code::Turn::judged_of, crate::specs::Code::Turn::judged_last))]
+fn judge(wanted: Wanted, good: bool, reply: bool) -> Result<bool, PublisherStop>
     ensures { result ≡ judged_of wanted good reply }
 {
     match wanted {
-        Wanted::Anything => Judged::On(true),
-        Wanted::Presence => judge_presence(reply),
-        Wanted::Bit(b) => Judged::On(bits::line(good, bits::agree(b, reply))),
-        Wanted::LastCrcBit(crc) => {
-            judge_last(
-                bits::line(good, bits::agree(crc, reply)),
-                PublisherStop::Crc16,
-            )
-        }
-        Wanted::LastBackBit(back) => {
-            judge_last(
-                bits::line(good, bits::agree(back, reply)),
-                PublisherStop::ReadBack,
-            )
-        }
+        Wanted::Anything => Ok(true),
+        Wanted::Presence => judge_last(!reply, PublisherStop::NoPresence),
+        Wanted::Bit(b) => Ok(good && b == reply),
+        Wanted::LastCrcBit(b) => judge_last(good && b == reply, PublisherStop::Crc16),
+        Wanted::LastBackBit(b) => judge_last(good && b == reply, PublisherStop::ReadBack),
     }
 }
 
 // ---- a later call
 
 // Event number k of the state's plan, counted from 0.
+#[tactic(auto, unfolding(crate::specs::Code::Turn::step_of))]
 fn step_of(s: Publisher, k: u16) -> Step
     ensures { result ≡ step_of (plan_in s) k }
 {
-    let kind = s.kind;
-    let l = s.superseded;
-    let t = s.target;
-    let new = s.new;
-    master_plan::step_at(kind, l, t, s.used, new, k)
+    master_plan::step_at(s.kind, s.superseded, s.target, s.used, s.new, k)
 }
 
 // What the reply that comes after k events has to be.
+#[tactic(auto, unfolding(crate::specs::Code::Turn::wanted_of))]
 fn wanted_of(s: Publisher, k: u16) -> Wanted
     ensures { result ≡ wanted_of (plan_in s) k }
 {
     if k == 0 {
         Wanted::Anything
     } else {
-        let step = step_of(s, k - 1);
-        step.wanted
+        step_of(s, k - 1).wanted
     }
 }
 
 fn at_stage(s: Publisher, stage: Stage) -> Publisher
     ensures { result ≡ at_stage s stage }
 {
-    let kind = s.kind;
-    let superseded = s.superseded;
-    let target = s.target;
-    let new = s.new;
-    Publisher {
-        kind,
-        stage,
-        superseded,
-        target,
-        used: s.used,
-        new,
-    }
+    Publisher { stage, ..s }
 }
 
-fn published(s: Publisher) -> Answer
-    ensures { result ≡ Answer.Published s.superseded s.target }
+// The end tells L and T.
+fn published(s: Publisher) -> Result<Next<(Page, Page)>, Refusal>
+    ensures { result ≡ Ok (End (s.superseded, s.target)) }
 {
-    let l = s.superseded;
-    let t = s.target;
-    Answer::Published(l, t)
+    Ok(Next::End((s.superseded, s.target)))
 }
 
-fn go_on(s: Publisher, k: u16, good: bool) -> Stepped
+// The next event, or the end.
+#[tactic(auto, unfolding(crate::specs::Code::Turn::gone_on))]
+fn go_on(s: Publisher, k: u16, good: bool) -> Turn
     ensures { result ≡ gone_on (total_in s) (plan_in s) s k good }
 {
-    let kind = s.kind;
-    if k < kind::total(kind) {
-        let step = step_of(s, k);
-        let event = step.event;
+    if k < kind::total(s.kind) {
         Stepped {
-            answer: Answer::Send(event),
+            answer: Ok(Next::Send(step_of(s, k).event)),
             state: at_stage(s, Stage::Running(k + 1, good)),
         }
     } else {
@@ -357,29 +281,24 @@ fn go_on(s: Publisher, k: u16, good: bool) -> Stepped
     }
 }
 
-fn after_judging(s: Publisher, k: u16, judged: Judged) -> Stepped
-    ensures { result ≡ judged_turn (total_in s) (plan_in s) s k judged }
+#[tactic(auto, unfolding(crate::specs::Code::Turn::turn_of, crate::specs::Code::Turn::judged_turn))]
+fn turn(s: Publisher, reply: bool) -> Turn
+    ensures { result ≡ turn_of (total_in s) (plan_in s) s s.stage reply }
 {
-    match judged {
-        Judged::On(good) => go_on(s, k, good),
-        Judged::Stop(stop) => Stepped {
-            answer: Answer::Refused(refusal_of(stop)),
-            state: at_stage(s, Stage::Stopped(stop)),
+    match s.stage {
+        Stage::Running(k, good) => match judge(wanted_of(s, k), good, reply) {
+            Ok(good) => go_on(s, k, good),
+            Err(stop) => Stepped {
+                answer: Err(Refusal::from(stop)),
+                state: at_stage(s, Stage::Stopped(stop)),
+            },
         },
-    }
-}
-
-fn turn(s: Publisher, stage: Stage, reply: bool) -> Stepped
-    ensures { result ≡ turn_of (total_in s) (plan_in s) s stage reply }
-{
-    match stage {
-        Stage::Running(k, good) => after_judging(s, k, judge(wanted_of(s, k), good, reply)),
         Stage::Done => Stepped {
             answer: published(s),
             state: s,
         },
         Stage::Stopped(stop) => Stepped {
-            answer: Answer::Refused(refusal_of(stop)),
+            answer: Err(Refusal::from(stop)),
             state: s,
         },
     }
@@ -391,10 +310,7 @@ fn turn(s: Publisher, stage: Stage, reply: bool) -> Stepped
 fn reads_crc(mode: WriteMode) -> bool
     ensures { result ≡ reads_crc mode }
 {
-    match mode {
-        WriteMode::Ordinary => true,
-        WriteMode::Quick => false,
-    }
+    mode == WriteMode::Ordinary
 }
 
 // What a stopped state can hold: 5 with a number that is no page, 9 and 20 with a page, and 6 where CRCs are read.
@@ -402,60 +318,56 @@ fn stop_in_range(mode: WriteMode, last: Page, stop: PublisherStop) -> bool
     ensures { result ≡ stop_in_range mode (page_count last) stop }
 {
     match stop {
-        PublisherStop::ImageLength => true,
-        PublisherStop::PageNumber => true,
-        PublisherStop::Loop => true,
         PublisherStop::Outside(x) => !layout::is_page(last, Page(x)),
         PublisherStop::Crc16 => reads_crc(mode),
-        PublisherStop::ReadBack => true,
-        PublisherStop::NoFreePage => true,
-        PublisherStop::RedirectionProtected(l) => layout::is_page(last, l),
-        PublisherStop::BufferLength => true,
-        PublisherStop::NoPresence => true,
-        PublisherStop::DataProtected(l) => layout::is_page(last, l),
+        PublisherStop::RedirectionProtected(l) | PublisherStop::DataProtected(l) => {
+            layout::is_page(last, l)
+        }
+        PublisherStop::ImageLength
+        | PublisherStop::PageNumber
+        | PublisherStop::Loop
+        | PublisherStop::ReadBack
+        | PublisherStop::NoFreePage
+        | PublisherStop::BufferLength
+        | PublisherStop::NoPresence => true,
     }
 }
 
 fn stage_in_range(kind: UpdateKind, last: Page, stage: Stage) -> bool
     ensures { result ≡ stage_in_range kind (page_count last) stage }
 {
-    let mode = kind.mode;
     match stage {
         Stage::Running(k, _) => k <= kind::total(kind),
         Stage::Done => true,
-        Stage::Stopped(stop) => stop_in_range(mode, last, stop),
+        Stage::Stopped(stop) => stop_in_range(kind.mode, last, stop),
     }
 }
 
 // Whether a state is within its ranges; one that is not draws 2.
+#[tactic(auto, unfolding(crate::specs::Call::publisher_in_range))]
 pub fn in_range(last: Page, s: Publisher) -> bool
     ensures { result ≡ publisher_in_range (page_count last) s }
 {
-    let kind = s.kind;
-    let stage = s.stage;
-    let l = s.superseded;
-    let t = s.target;
-    if !layout::is_page(last, l) {
-        return false;
-    }
-    if !layout::is_page(last, t) {
-        return false;
-    }
-    stage_in_range(kind, last, stage)
+    layout::is_page(last, s.superseded)
+        && layout::is_page(last, s.target)
+        && stage_in_range(s.kind, last, s.stage)
 }
 
 // A later call takes the reply to the last event and gives the next one, or L and T, or a refusal; an end repeats when asked again.
 // Refused: 2, with the same state; 13, 6 (in the ordinary mode only), 7, with the stopped state.
-pub fn call(state: Publisher, reply: bool) -> Stepped
+#[tactic(auto, unfolding(crate::specs::Call::call_answer, crate::specs::Call::call_state))]
+pub fn call(
+    state: Publisher,
+    reply: bool,
+) -> Stepped<Result<Next<(Page, Page)>, Refusal>, Publisher>
     ensures answer { turn_outcome result.answer ≡ call_answer 64 state reply }
     ensures state { result.state ≡ call_state 64 state reply }
 {
-    if !in_range(Page(layout::DS2505), state) {
+    if !in_range(layout::DS2505, state) {
         return Stepped {
-            answer: Answer::Refused(Refusal::StateRange),
+            answer: Err(Refusal::StateRange),
             state,
         };
     }
-    let stage = state.stage;
-    turn(state, stage, reply)
+    turn(state, reply)
 }

@@ -8,6 +8,7 @@ use lib.Dec.{ltb, lit<, lit≤}
 use lib.ListN.{length, get_or, take, replicate}
 use lib.Seq.{take-append-le}
 use borrow.Author.Tests.{lt-ltb, le-ltb, eq-eqb}
+use Rattle.std.specs.Prelude.{Ok, Err}
 use Rattle.base_types.specs.Outcome.{Outcome, accepted, refused}
 use Rattle.base_types.specs.Refusal.{number_of, values_of}
 use Rattle.base_types.specs.declared.address.Page.{Page}
@@ -24,10 +25,8 @@ use Rattle.bus_scripts.proofs.Orders.{telling_all, stopped_told}
 use Rattle.master_plan.specs.declared.kind.UpdateKind.{UpdateKind}
 use Rattle.master_plan.specs.Kind.{total_of, shown_of}
 use Rattle.master_plan.specs.Plan.{plan_of, step_events}
-use Rattle.master_publisher.specs.declared.Choice.{Choice}
-use Rattle.master_publisher.specs.declared.Choice.TheVariants.{Refused, Accepted}
 use Rattle.master_publisher.specs.declared.Publisher.{Publisher}
-use Rattle.master_publisher.specs.Start.{choice_of, choice_outcome, choice_state, ready, bitmap_byte, publisher_state}
+use Rattle.master_publisher.specs.Start.{Choice, choice_of, choice_outcome, choice_state, ready, bitmap_byte, publisher_state}
 use Rattle.master_publisher.specs.Stop.{publisher_refusal}
 use Rattle.master_publisher.specs.Code.Turn.{plan_in}
 use Rattle.chip_entries.specs.Run.{Chip, next, line_at, run}
@@ -140,13 +139,13 @@ module _ (n : ℕ) (whole : n % 8 ≡ 0) (some : 0 < n) (low : n ≤ 256) (kind 
   accepts : Ready n c → Bytes new → (ch : Choice) → choice ≡ ch → choice_outcome ch ≡ accepted []
       → Update n kind c new p (choice_state n kind c.image new ch) replies
   unfolding choice_state
-  accepts ok small (Accepted l t) e a = update l t (record { ready = ok; new_bytes = small; chosen = e })
-  accepts ok small (Refused r) e a = absurd (let y : ◌≡◌ {A = ℕ} 0 1 = cc in omega arith)
+  accepts ok small (Ok pages) e a = update pages.0 pages.1 (record { ready = ok; new_bytes = small; chosen = e })
+  accepts ok small (Err r) e a = cc
 
   refuses : (k : ℕ) (values : List ℕ) (ch : Choice) → choice ≡ ch → choice_outcome ch ≡ refused k values
       → update_answers n (publisher_state n kind c.image new p) replies ≡ replicate (length replies) (refused k values)
-  refuses k values (Accepted l t) e a = absurd (let y : ◌≡◌ {A = ℕ} 0 1 = cc in omega arith)
-  refuses k values (Refused r) e a =
+  refuses k values (Ok pages) e a = cc
+  refuses k values (Err r) e a =
       let number : number_of (publisher_refusal r) ≡ k = cc in
       let given : values_of (publisher_refusal r) ≡ values = cc in
       (call_laws n some).plays kind c.image new p replies

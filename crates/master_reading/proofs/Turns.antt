@@ -1,16 +1,14 @@
 -- The page read joined to a chip, one call after the other: what the calls that are left tell says what this one tells.
-use Prim.Native.Nat.{ℕ, zero, suc, ◌+◌, ◌<◌, ◌≤◌}
-use mathlib.Core.Path.{◌≡◌, refl, sym, ap, ◌∙◌}
+use Prim.Native.Nat.{ℕ, suc, ◌+◌, ◌<◌, ◌≤◌}
+use mathlib.Core.Path.{◌≡◌, refl, ap, ◌∙◌}
 use mathlib.Core.Bool.{Bool, true}
 use mathlib.Core.List.{List, [], ◌∷◌}
 use native.Mathlib.Omega.{arith}
 use lib.ListN.{length}
-use Rattle.base_types.specs.Outcome.{Outcome, accepted, refused}
-use Rattle.base_types.specs.declared.verdict.Verdict.{Verdict}
-use Rattle.base_types.specs.declared.verdict.Verdict.TheVariants.{Final, Loop, Outside}
+use Rattle.base_types.specs.Outcome.{Outcome, accepted}
 use Rattle.bus_events.specs.declared.Event.{Event}
-use Rattle.bus_scripts.specs.Next.{Next, send, tells, out_of, events_of}
-use Rattle.bus_scripts.specs.Joint.{event, quiet, reached, drew, drawn_replies}
+use Rattle.bus_scripts.specs.Next.{Next, send, out_of, events_of}
+use Rattle.bus_scripts.specs.Joint.{event, quiet, drawn_replies}
 use Rattle.bus_scripts.specs.Script.{left_in, telling, leaving}
 use Rattle.bus_scripts.proofs.Scripts.{script_laws}
 use Rattle.chip_chain.specs.Walk.{walk_of}
@@ -25,6 +23,7 @@ use Rattle.master_page.specs.PageRead.{start_state}
 use Rattle.master_page_laws.specs.Heard.{page_events_for}
 use Rattle.master_page.specs.Held.{PageHeld, page_told, page_called, page_started}
 use Rattle.master_page_laws.specs.Laws.{PageJoined, page_answers_to, page_after, verdict_outcome, verdict_bytes}
+use Rattle.master_page_laws.proofs.Derived.{quiet_verdict}
 use Rattle.master_page_laws.proofs.Ds2505.{page_read}
 
 -- the replies that so many further calls get
@@ -38,14 +37,8 @@ told_at_end img p = verdict_outcome (walk_of 64 img p)
 abbrev bytes_at_end : List ℕ → ℕ → List ℕ
 bytes_at_end img p = verdict_bytes (walk_of 64 img p) img
 
--- a verdict tells no event
-quiet_end : (v : Verdict) → out_of (verdict_outcome v) ≡ quiet
-quiet_end (Final p hops) = refl
-quiet_end Loop = refl
-quiet_end (Outside k) = refl
-
 no_event : (a : Outcome Next) (f : Event) → out_of a ≡ quiet → a ≡ accepted (send f) → ⊥
-no_event a f silent is = let e : out_of a ≡ event f = ap out_of is in let z : ◌≡◌ {A = ℕ} 0 1 = cc in omega arith
+no_event a f silent is = let e : out_of a ≡ event f = ap out_of is in cc
 
 -- The read of page p into a buffer, with so many events sent: these are left. Further calls send them and then tell the end, hand the
 -- bytes over with it, and leave the image.
@@ -77,7 +70,7 @@ module _ (img lent : List ℕ) (p sent : ℕ) (h : PageHeld) (c : Chip) (r : Boo
           → ((m : ℕ) → page_answers_to 64 h (drawn_for m h c r) ≡ telling left (told_at_end img p) m)
           → ((m : ℕ) → (page_after 64 h (drawn_for m h c r)).buffer ≡ leaving left (bytes_at_end img p) m lent)
           → UnderWay img lent p (sent + 1) (page_called 64 h r) (next 64 c e) (line_at 64 c e)
-      go [] n t l = let first = t 1 in absurd (no_event (told_at_end img p) e (quiet_end (walk_of 64 img p)) cc)
+      go [] n t l = let first = t 1 in absurd (no_event (told_at_end img p) e (quiet_verdict (walk_of 64 img p)) cc)
       go (f ∷ left) n t l =
           record {
             left = left;

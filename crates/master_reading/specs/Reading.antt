@@ -1,5 +1,7 @@
 -- A whole page read on an image, over the page count n: what is told is the walk's verdict, and the events are those along the chain.
-use Rattle.std.specs.Prelude.{ℕ, List, [], ◌∷◌, eqb, length}
+use Rattle.std.specs.Prelude.{ℕ, List, [], ◌∷◌, Result, Ok, Err, eqb, length}
+use Rattle.base_types.specs.declared.address.Page.{Page}
+use Rattle.base_types.specs.declared.refusal.Refusal.{Refusal}
 use Rattle.base_types.specs.Outcome.{Outcome, accepted, refusing, judge, Done, done, unless_refused, following}
 use Rattle.bus_scripts.specs.Next.{Next, tells}
 use Rattle.bus_scripts.specs.Script.{left_in}
@@ -7,12 +9,11 @@ use Rattle.chip_chain.specs.Walk.{walk_of}
 use Rattle.chip_memory.specs.Layout.{is_image, is_page}
 use Rattle.master_page_laws.specs.Heard.{page_events_for}
 use Rattle.master_page_laws.specs.Laws.{verdict_outcome, verdict_bytes}
-use Rattle.master_reading.specs.declared.End.{End}
-use Rattle.master_reading.specs.declared.End.TheVariants.{Refused, Final}
 
-abbrev pub end_told : End → Outcome Next
-end_told (Refused r) = refusing r
-end_told (Final p hops) = accepted (tells (p.0 ∷ hops ∷ []))
+-- what the end of a read tells: the final page and the hops, or a refusal
+abbrev pub end_told : Result (Page × ℕ) Refusal → Outcome Next
+end_told (Ok e) = accepted (tells (e.0.0 ∷ e.1 ∷ []))
+end_told (Err r) = refusing r
 
 -- 1, 10, 3
 abbrev pub reading_judged : ℕ → List ℕ → ℕ → List ℕ → Outcome Done

@@ -2,99 +2,69 @@
 #![tactic(auto)]
 
 ghost use Rattle.std.specs.Prelude.{true, ◌≡◌, length};
+ghost use Rattle.base_types.specs.Outcome.{outcome_of};
 ghost use Rattle.bus_scripts.specs.Script.{left_in};
 ghost use Rattle.chip_chain.specs.Walk.{walk_of};
-ghost use Rattle.chip_entries.specs.Event.{event_outcome};
-ghost use Rattle.chip_entries.specs.Run.{line_of};
 ghost use Rattle.chip_memory.specs.Layout.{is_image, is_page};
 ghost use Rattle.master_page_laws.specs.Heard.{page_events_for};
 ghost use Rattle.master_page_laws.specs.Laws.{verdict_outcome, verdict_bytes};
-ghost use Rattle.base_types.specs.Outcome.{judged_outcome};
 ghost use Rattle.master_reading.specs.Reading.{end_told, reading_judged, reading_end, reading_events, reading_buffer};
 
 use base_types::address::Page;
-use base_types::refusal::{Judged, Refusal};
+use base_types::refusal::Refusal;
+use bus_events::Next;
+use chip_entries::event;
 use chip_memory::layout;
-use master_page::Answer;
 
-// How a read ends.
-#[derive(Clone, Copy)]
-pub enum End {
-    Refused(Refusal),
-    Final(Page, u8),
-}
-
-// The end, and how many events reached the chip.
-#[derive(Clone, Copy)]
+// How a read ends, at the final page and after so many hops or with a refusal; and how many events reached the chip.
+#[derive(Clone, Copy, Debug, PartialEq, Eq)]
 pub struct Reading {
-    pub end: End,
+    pub end: Result<(Page, u8), Refusal>,
     pub events: u32,
 }
 
-// The line that an event drew; 1 where the event was refused.
-fn line_drawn(answer: chip_entries::event::Answer) -> bool
-    ensures { result ≡ line_of (event_outcome answer) }
+fn judge(image: &[u8], page: Page, buffer: &[u8]) -> Result<(), Refusal>
+    ensures { outcome_of result ≡ reading_judged 64 image.now page.0 buffer.now }
 {
-    match answer {
-        chip_entries::event::Answer::Refused(_) => true,
-        chip_entries::event::Answer::Reply(bit) => bit,
-    }
-}
-
-fn judge(image: &[u8], page: Page, buffer: &[u8]) -> Judged
-    ensures { judged_outcome result ≡ reading_judged 64 image.now page.0 buffer.now }
-{
-    if !layout::is_image(image, Page(layout::DS2505)) {
-        return Judged::Refused(Refusal::ImageLength);
+    if !layout::is_image(image, layout::DS2505) {
+        return Err(Refusal::ImageLength);
     }
     if buffer.len() != 32 {
-        return Judged::Refused(Refusal::BufferLength);
+        return Err(Refusal::BufferLength);
     }
-    if !layout::is_page(Page(layout::DS2505), page) {
-        return Judged::Refused(Refusal::PageNumber);
+    if !layout::is_page(layout::DS2505, page) {
+        return Err(Refusal::PageNumber);
     }
-    Judged::Accepted
+    Ok(())
 }
 
 // Each call gets the reply that the last event drew; the first reply is not looked at. A read ends after 3,921 events at the latest.
-fn join(image: &mut [u8], number: [u8; 8], page: u8, buffer: &mut [u8]) -> Reading
-    requires { (is_image 64 image.old ≡ true) × (length buffer.old ≡ 32) × (is_page 64 page ≡ true) }
-    ensures end { end_told result.end ≡ verdict_outcome (walk_of 64 image.old page) }
-    ensures events { result.events ≡ length (page_events_for 64 image.old page) }
-    ensures buffer { buffer.new ≡ left_in (verdict_bytes (walk_of 64 image.old page) image.old) buffer.old }
+fn join(image: &mut [u8], number: [u8; 8], page: Page, buffer: &mut [u8]) -> Reading
+    requires { (is_image 64 image.old ≡ true) × (length buffer.old ≡ 32) × (is_page 64 page.0 ≡ true) }
+    ensures end { end_told result.end ≡ verdict_outcome (walk_of 64 image.old page.0) }
+    ensures events { result.events ≡ length (page_events_for 64 image.old page.0) }
+    ensures buffer { buffer.new ≡ left_in (verdict_bytes (walk_of 64 image.old page.0) image.old) buffer.old }
     ensures image { image.new ≡ image.old }
 {
-    let started = master_page::start(Page(page));
-    let mut reader = started.state;
-    let mut chip = chip_entries::event::power_up(number);
+    let mut reader = master_page::start(page).state;
+    let mut chip = event::power_up(number);
     let mut reply = true;
     let mut events: u32 = 0;
-    loop {
+    let end = loop {
         let called = master_page::call(reader, reply, buffer);
-        let answer = called.answer;
-        match answer {
-            Answer::Send(e) => {
-                let stepped = chip_entries::event::event(chip, e, image);
-                let drawn = stepped.answer;
+        match called.answer {
+            Ok(Next::Send(e)) => {
+                let stepped = event::event(chip, e, image);
                 reader = called.state;
                 chip = stepped.state;
-                reply = line_drawn(drawn);
+                reply = event::line_of(stepped.answer);
                 events += 1;
             }
-            Answer::Final(p, hops) => {
-                return Reading {
-                    end: End::Final(p, hops),
-                    events,
-                };
-            }
-            Answer::Refused(refusal) => {
-                return Reading {
-                    end: End::Refused(refusal),
-                    events,
-                };
-            }
+            Ok(Next::End(end)) => break Ok(end),
+            Err(refusal) => break Err(refusal),
         }
-    }
+    };
+    Reading { end, events }
 }
 
 // The read of a page of the chip with this number whose memory is the image, into a buffer of 32 bytes. Refused, with no event: 1, 10, 3;
@@ -106,10 +76,10 @@ pub fn read(image: &mut [u8], number: [u8; 8], page: Page, buffer: &mut [u8]) ->
     ensures image { image.new ≡ image.old }
 {
     match judge(image, page, buffer) {
-        Judged::Refused(refusal) => Reading {
-            end: End::Refused(refusal),
+        Ok(()) => join(image, number, page, buffer),
+        Err(refusal) => Reading {
+            end: Err(refusal),
             events: 0,
         },
-        Judged::Accepted => join(image, number, page.0, buffer),
     }
 }

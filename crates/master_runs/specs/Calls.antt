@@ -1,5 +1,6 @@
 -- A master fed a list of replies, a byte each.
 use Rattle.std.specs.Prelude.{ℕ, Bool, true, ◌&&◌, List, [], ◌∷◌, map, eqb, ltb, length}
+use Rattle.std.specs.List.{list_all}
 use Rattle.base_types.specs.Outcome.{Outcome, refused, accepted, Done, unless_refused, following, in_order}
 use Rattle.bus_events.specs.Events.{reset}
 use Rattle.bus_events.specs.Codes.{code_of}
@@ -8,8 +9,7 @@ use Rattle.bus_scripts.specs.Joint as joint
 
 -- the bytes are replies, 0 or 1
 unfoldable pub are_replies : List ℕ → Bool
-are_replies [] = true
-are_replies (c ∷ cs) = ltb c 2 && are_replies cs
+are_replies codes = list_all (λ code. ltb code 2) codes
 
 -- a buffer has a byte for each reply
 abbrev pub as_many : List ℕ → List ℕ → Bool

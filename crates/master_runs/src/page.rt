@@ -1,82 +1,94 @@
 // The page read fed a list of replies.
-ghost use Rattle.std.specs.Prelude.{◌≡◌, ◌&&◌, map, eqb, length};
-ghost use Rattle.base_types.specs.Outcome.{judged_outcome};
+ghost use Rattle.std.specs.Prelude.{◌≡◌, ◌∷◌, []};
+ghost use Rattle.base_types.specs.Outcome.{outcome_of};
 ghost use Rattle.master_page.specs.PageRead.{read_outcome};
-ghost use Rattle.master_page.specs.Held.{page_held, page_told, page_called};
-ghost use Rattle.master_runs.specs.Calls.{as_many, call_code, last_from, to_come, fed_calls, fed_answers};
+ghost use Rattle.master_page.specs.Held.{PageHeld, page_held, page_told, page_called};
 ghost use Rattle.master_runs.specs.Page.{page_fed_judged, page_fed_outcome, page_fed, page_fed_events};
 
 use crate::calls;
+use crate::calls::Master;
 use base_types::address::Page;
-use base_types::refusal::Judged;
-use bus_events::Event;
+use base_types::refusal::Refusal;
+use base_types::stepped::Stepped;
+use bus_events::Next;
 use chip_memory::layout;
-use master_page::{Answer, PageRead, Stepped};
+use master_page::PageRead;
 
-// The byte of an answer.
-fn code(answer: Answer) -> u8
-    ensures { result ≡ call_code (read_outcome answer) }
-{
-    match answer {
-        Answer::Send(e) => bus_events::code_of(e),
-        Answer::Final(_, _) => 0xFF,
-        Answer::Refused(_) => 0xFF,
-    }
+// A page read with the buffer that its calls are lent, as one state: so it is a master like the others.
+#[derive(Clone, Copy)]
+struct Held {
+    state: PageRead,
+    buffer: [u8; 32],
 }
 
-// The events' buffer has a byte for each reply, and the page's buffer 32.
-fn are_right(replies: &[u8], events: &[u8], buffer: &[u8]) -> bool
-    ensures { result ≡ (as_many replies.now events.now && eqb (length buffer.now) 32) }
-{
-    if events.len() != replies.len() {
-        return false;
+impl Master for Held {
+    type End = (Page, u8);
+
+    ghost Seen = { PageHeld };
+
+    ghost seen = { λ held. page_held held.state held.buffer };
+
+    ghost called = { page_called 64 };
+
+    ghost told = { page_told 64 };
+
+    ghost values = { λ found. found.0.0 ∷ found.1 ∷ [] };
+
+    fn call(self, reply: bool) -> Stepped<Result<Next<(Page, u8)>, Refusal>, Held> {
+        let mut buffer = self.buffer;
+        let stepped = master_page::call(self.state, reply, &mut buffer);
+        Stepped {
+            answer: stepped.answer,
+            state: Held {
+                state: stepped.state,
+                buffer,
+            },
+        }
     }
-    buffer.len() == 32
 }
 
 // Whether the read can be fed these replies. Refused: 2 for a state outside its ranges and for a byte that is no reply, 10 for an
 // events' buffer that has not a byte for each reply and for a page's buffer that is not 32 bytes.
-pub fn judge(start: PageRead, replies: &[u8], events: &[u8], buffer: &[u8]) -> Judged
-    ensures { judged_outcome result ≡ page_fed_judged 64 (page_held start buffer.now) replies.now events.now }
+#[tactic(auto, unfolding(crate::specs::Page::page_fed_judged))]
+pub fn judge(start: PageRead, replies: &[u8], events: &[u8], buffer: &[u8]) -> Result<(), Refusal>
+    ensures { outcome_of result ≡ page_fed_judged 64 (page_held start buffer.now) replies.now events.now }
 {
     calls::judge(
-        master_page::in_range(Page(layout::DS2505), start),
+        master_page::in_range(layout::DS2505, start),
         replies,
-        are_right(replies, events, buffer),
+        events.len() == replies.len() && buffer.len() == 32,
     )
-}
-
-fn feed(start: PageRead, replies: &[u8], events: &mut [u8], buffer: &mut [u8]) -> Stepped
-    requires { length events.old ≡ length replies.now }
-    ensures state { page_held result.state buffer.new ≡ fed_calls (page_called 64) (page_told 64) (page_held start buffer.old) replies.now }
-    ensures answer { read_outcome result.answer ≡ last_from to_come (fed_answers (page_called 64) (page_told 64) (page_held start buffer.old) replies.now) }
-    ensures events { events.new ≡ map call_code (fed_answers (page_called 64) (page_told 64) (page_held start buffer.old) replies.now) }
-{
-    let mut state = start;
-    let mut answer = Answer::Send(Event::Reset);
-    let mut i = 0;
-    while i < replies.len() {
-        let stepped = master_page::call(state, replies[i] == 1, buffer);
-        answer = stepped.answer;
-        state = stepped.state;
-        events[i] = code(answer);
-        i += 1;
-    }
-    Stepped { answer, state }
 }
 
 // The state and the caller's buffer after the calls, and the last answer; with no call, the reset to come. Refused: 2, 10, with the
 // same state.
-pub fn run(start: PageRead, replies: &[u8], events: &mut [u8], buffer: &mut [u8]) -> Stepped
+#[tactic(auto, unfolding(crate::specs::Page::page_fed_judged, crate::specs::Page::page_fed_outcome, crate::specs::Page::page_fed, crate::specs::Page::page_fed_events))]
+pub fn run(
+    start: PageRead,
+    replies: &[u8],
+    events: &mut [u8],
+    buffer: &mut [u8],
+) -> Stepped<Result<Next<(Page, u8)>, Refusal>, PageRead>
     ensures state { page_held result.state buffer.new ≡ page_fed 64 (page_held start buffer.old) replies.now events.old }
     ensures answer { read_outcome result.answer ≡ page_fed_outcome 64 (page_held start buffer.old) replies.now events.old }
     ensures events { events.new ≡ page_fed_events 64 (page_held start buffer.old) replies.now events.old }
 {
-    match judge(start, replies, events, buffer) {
-        Judged::Refused(refusal) => Stepped {
-            answer: Answer::Refused(refusal),
+    if let Err(refusal) = judge(start, replies, events, buffer) {
+        return Stepped {
+            answer: Err(refusal),
             state: start,
-        },
-        Judged::Accepted => feed(start, replies, events, buffer),
+        };
+    }
+    let mut lent = [0; 32];
+    lent.copy_from_slice(buffer);
+    let held = Held {
+        state: start,
+        buffer: lent,
+    };
+    let fed = calls::feed(held, replies, events);
+    buffer.copy_from_slice(&fed.state.buffer);
+    Stepped {
+        answer: fed.answer,
+        state: fed.state.state,
     }
 }

@@ -7,7 +7,8 @@ use native.Mathlib.Omega.{arith}
 use lib.Dec.{ltb, lit<, lit≤}
 use lib.ListN.{length, take}
 use lib.Seq.{take_all}
-use Rattle.base_types.specs.Outcome.{Outcome, accepted, refused, refusing}
+use Rattle.std.specs.Prelude.{Ok, Err}
+use Rattle.base_types.specs.Outcome.{accepted, refused}
 use Rattle.base_types.specs.declared.address.Page.{Page}
 use Rattle.base_types.specs.declared.refusal.Refusal.{Refusal}
 use Rattle.base_types.specs.Refusal.{number_of, values_of}
@@ -18,11 +19,8 @@ use Rattle.bus_scripts.proofs.Scripts.{script_laws}
 use Rattle.bus_scripts.proofs.Orders.{telling_events}
 use Rattle.chip_chain_laws.specs.Update.{read_of, moved}
 use Rattle.master_plan.specs.Kind.{total_of, shown_of}
-use Rattle.master_publisher.specs.declared.Choice.{Choice}
-use Rattle.master_publisher.specs.declared.Choice.TheVariants.{Refused, Accepted}
 use Rattle.master_publisher.specs.declared.Publisher.{Publisher}
-use Rattle.master_publisher.specs.declared.StartAnswer.TheVariants.{Refused as StartRefused, Ready as StartReady}
-use Rattle.master_publisher.specs.Start.{choice_of, choice_outcome, choice_state, ready, stopped_by, start_outcome, publisher_answer, publisher_state}
+use Rattle.master_publisher.specs.Start.{Choice, choice_of, choice_outcome, choice_state, ready, stopped_by, start_outcome, publisher_answer, publisher_state}
 use Rattle.master_publisher.specs.Call.{call_answer, call_state}
 use Rattle.chip_entries.specs.declared.event.State.{State}
 use Rattle.chip_entries.specs.Event.{power_up}
@@ -83,10 +81,10 @@ module _ (kind : UpdateKind) (number img new : List ℕ) (p events : ℕ) (eight
 
   image_refused : (ch : Choice) (k : ℕ) (values : List ℕ) → choice_answer ch ≡ refused k values → image_by ch ≡ img
   unfolding choice_state stopped_by is_running
-  image_refused (Refused r) k values e = run_ended 64 events (opened (stopped_by kind r) number) img refl
-  image_refused (Accepted l t) k values e = absurd (let z : ◌≡◌ {A = ℕ} 0 1 = cc in omega arith)
+  image_refused (Err r) k values e = run_ended 64 events (opened (stopped_by kind r) number) img refl
+  image_refused (Ok pages) k values e = cc
 
-  chosen : (l t : Page) → choice_of 64 kind.placement img new p ≡ Accepted l t → Accepts 64 kind (record { state = power_up number; image = img }) new p l t
+  chosen : (l t : Page) → choice_of 64 kind.placement img new p ≡ Ok (l, t) → Accepts 64 kind (record { state = power_up number; image = img }) new p l t
   chosen l t e =
       record { ready = states.power_up_law number img (chosen_means l t 64 kind img new p e).size eight; new_bytes = small; chosen = e }
 
@@ -102,33 +100,29 @@ module _ (kind : UpdateKind) (number img new : List ℕ) (p events : ℕ) (eight
 
   -- what the start told says what the choice was
   was_refused : (ch : Choice) (k : ℕ) (values : List ℕ) → refused k values ≡ choice_outcome ch → refused k values ≡ choice_answer ch
-  was_refused (Refused r) k values e = e
-  was_refused (Accepted l t) k values e = absurd (let z : ◌≡◌ {A = ℕ} 0 1 = cc in omega arith)
+  was_refused (Err r) k values e = e
+  was_refused (Ok pages) k values e = cc
 
   was_accepted : (ch : Choice) → accepted [] ≡ choice_outcome ch
       → accepted ((choice_state 64 kind img new ch).superseded.0 ∷ (choice_state 64 kind img new ch).target.0 ∷ []) ≡ choice_answer ch
   unfolding choice_state ready
-  was_accepted (Refused r) e = absurd (let z : ◌≡◌ {A = ℕ} 0 1 = cc in omega arith)
-  was_accepted (Accepted l t) e = refl
+  was_accepted (Err r) e = cc
+  was_accepted (Ok pages) e = refl
 
   -- ---- the two ends of the function
 
-  abbrev Ends : Outcome (List ℕ) → List ℕ → Type 0
-  Ends answer after =
-      (answer ≡ update_answer 64 kind img new p) × ((after ≡ updated_image 64 kind number img new p events) × ReadsAs 64 kind img new p events after)
+  pub kept_refused : (r : Refusal) → start_outcome (Err r) ≡ publisher_answer 64 kind img new p → img ≡ updated_image 64 kind number img new p events
+  kept_refused r e =
+      let choice = choice_of 64 kind.placement img new p in
+      sym (image_refused choice (number_of r) (values_of r) (sym (was_refused choice (number_of r) (values_of r) e)))
 
-  ends : (answer : Outcome (List ℕ)) (after : List ℕ) → answer ≡ update_answer 64 kind img new p → after ≡ updated_image 64 kind number img new p events → Ends answer after
-  ends answer after a e = (a, (e, subst (ReadsAs 64 kind img new p events) (sym e) reads_as))
-
-  pub ends_refused : (r : Refusal) → start_outcome (StartRefused r) ≡ publisher_answer 64 kind img new p → Ends (refusing r) img
-  ends_refused r e =
-      let a = was_refused (choice_of 64 kind.placement img new p) (number_of r) (values_of r) e in
-      ends (refusing r) img a (sym (image_refused (choice_of 64 kind.placement img new p) (number_of r) (values_of r) (sym a)))
-
-  pub ends_ready : (s : Publisher) (cs : State) (after : List ℕ) → start_outcome StartReady ≡ publisher_answer 64 kind img new p → s ≡ publisher_state 64 kind img new p
+  pub ends_ready : (s : Publisher) (cs : State) (after : List ℕ) → start_outcome (Ok tt) ≡ publisher_answer 64 kind img new p → s ≡ publisher_state 64 kind img new p
       → cs ≡ power_up number
-      → after ≡ run_for 64 events (record { publisher = s; chip = cs; reply = true }) img → Ends (accepted (s.superseded.0 ∷ s.target.0 ∷ [])) after
+      → after ≡ run_for 64 events (record { publisher = s; chip = cs; reply = true }) img
+      → (accepted (s.superseded.0 ∷ s.target.0 ∷ []) ≡ update_answer 64 kind img new p) × ReadsAs 64 kind img new p events after
   ends_ready s cs after e es ec ea =
-      ends (accepted (s.superseded.0 ∷ s.target.0 ∷ [])) after
-      (ap (λ (u : Publisher). accepted (u.superseded.0 ∷ u.target.0 ∷ [])) es ∙ was_accepted (choice_of 64 kind.placement img new p) e)
-      (ea ∙ ap₂ (λ (u : Publisher) (v : State). run_for 64 events (record { publisher = u; chip = v; reply = true }) img) es ec)
+      let leaves : after ≡ updated_image 64 kind number img new p events =
+      ea ∙ ap₂ (λ (u : Publisher) (v : State). run_for 64 events (record { publisher = u; chip = v; reply = true }) img) es ec in (
+        ap (λ (u : Publisher). accepted (u.superseded.0 ∷ u.target.0 ∷ [])) es ∙ was_accepted (choice_of 64 kind.placement img new p) e,
+        subst (ReadsAs 64 kind img new p events) (sym leaves) reads_as,
+      )

@@ -1,7 +1,7 @@
 -- The loop over later calls, one turn at a time; and a publisher that has ended, which returns no event, however many calls follow.
 use Prim.Native.Nat.{ℕ, zero, suc, ◌-◌, ◌≤◌, ◌<◌}
-use mathlib.Core.Path.{◌≡◌, refl, ap, ◌∙◌}
-use mathlib.Core.Bool.{Bool, true, false, cond}
+use mathlib.Core.Path.{◌≡◌, refl, sym, ap, ◌∙◌}
+use mathlib.Core.Bool.{Bool, true, false}
 use mathlib.Core.List.{List, [], ◌∷◌}
 use native.Mathlib.Omega.{arith}
 use Rattle.base_types.specs.Outcome.{Outcome, accepted, refused}
@@ -33,11 +33,11 @@ one_turn n k j img =
     (handed n (chip_of j img) (call_answer n j.publisher j.reply)
     (update_answers n (call_state n j.publisher j.reply) (replies_for n k (called n j img) (image_called n j img))))
 
-pub run_next : (n left : ℕ) (j : Joined) (img : List ℕ) → 0 < left → run_for n (left - 1) (called n j img) (image_called n j img) ≡ run_for n left j img
+pub run_next : (n left : ℕ) (j : Joined) (img : List ℕ) → 0 < left → run_for n left j img ≡ run_for n (left - 1) (called n j img) (image_called n j img)
 run_next n zero j img lt = absurd (omega arith)
-run_next n (suc k) j img lt = let e : suc k - 1 ≡ k = omega arith in ap (λ (i : ℕ). run_for n i (called n j img) (image_called n j img)) e ∙ one_turn n k j img
+run_next n (suc k) j img lt = let e : suc k - 1 ≡ k = omega arith in rw e (sym (one_turn n k j img))
 
-pub run_none : (n left : ℕ) (j : Joined) (img : List ℕ) → left ≤ 0 → img ≡ run_for n left j img
+pub run_none : (n left : ℕ) (j : Joined) (img : List ℕ) → left ≤ 0 → run_for n left j img ≡ img
 unfolding run_for drawn_replies run events_of
 run_none n zero j img le = refl
 run_none n (suc k) j img le = absurd (omega arith)
@@ -47,7 +47,7 @@ run_none n (suc k) j img le = absurd (omega arith)
 stays : (s : Publisher) (g : Stage) (reply : Bool) (rest : List (Outcome Next)) → is_running g ≡ false
     → ((turn_of (total_in s) (plan_in s) s g reply).state ≡ s) × (events_of (turn_outcome (turn_of (total_in s) (plan_in s) s g reply).answer ∷ rest) ≡ events_of rest)
 unfolding is_running turn_of events_of
-stays s (Running k good) reply rest h = absurd (let z : ◌≡◌ {A = ℕ} 1 0 = ap (λ (b : Bool). cond b 1 0) h in omega arith)
+stays s (Running k good) reply rest h = cc
 stays s Done reply rest h = (refl, refl)
 stays s (Stopped r) reply rest h = (refl, refl)
 

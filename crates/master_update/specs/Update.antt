@@ -1,18 +1,17 @@
 -- A whole update on an image: the publisher joined to a chip, and what the image then reads as. n is the page count.
-use Rattle.std.specs.Prelude.{ℕ, ◌<◌, ◌≤◌, ◌≡◌, Bool, true, false, cond, List, [], ◌∷◌, ltb}
+use Rattle.std.specs.Prelude.{ℕ, ◌<◌, ◌≤◌, ◌≡◌, Bool, true, false, cond, List, [], ◌∷◌, Result, Ok, Err, ltb}
 use Rattle.base_types.specs.Outcome.{Outcome, accepted, refusing}
 use Rattle.base_types.specs.declared.address.Page.{Page}
+use Rattle.base_types.specs.declared.refusal.Refusal.{Refusal}
 use Rattle.master_plan.specs.declared.kind.UpdateKind.{UpdateKind}
 use Rattle.bus_scripts.specs.Next.{Next, out_of}
 use Rattle.bus_scripts.specs.Joint.{reached, drew, drawn_replies}
 use Rattle.chip_chain_laws.specs.Update.{read_of, moved}
-use Rattle.master_publisher.specs.declared.Choice.{Choice}
-use Rattle.master_publisher.specs.declared.Choice.TheVariants.{Refused, Accepted}
 use Rattle.master_publisher.specs.declared.Publisher.{Publisher}
 use Rattle.master_publisher.specs.declared.Stage.{Stage}
 use Rattle.master_publisher.specs.declared.Stage.TheVariants.{Running, Done, Stopped}
 use Rattle.master_publisher.specs.Stop.{publisher_refusal}
-use Rattle.master_publisher.specs.Start.{choice_of, publisher_state}
+use Rattle.master_publisher.specs.Start.{Choice, choice_of, publisher_state}
 use Rattle.master_publisher.specs.Call.{call_answer, call_state}
 use Rattle.chip_entries.specs.Event.{power_up}
 use Rattle.chip_entries.specs.Run.{Chip, next, line_at, run}
@@ -20,8 +19,6 @@ use Rattle.master_plan.specs.Kind.{total_of, shown_of}
 use Rattle.master_plan_laws.specs.Plan.{image_left}
 use Rattle.master_publisher_laws.specs.Demand.{returned}
 use Rattle.master_update.specs.declared.Joined.{Joined}
-use Rattle.master_update.specs.declared.Updated.{Updated}
-use Rattle.master_update.specs.declared.Updated.TheVariants.{Refused as UpdateRefused, Ran}
 
 -- the chip of a joined pair, with its memory
 abbrev pub chip_of : Joined → List ℕ → Chip
@@ -68,13 +65,13 @@ opened s number = record { publisher = s; chip = power_up number; reply = true }
 
 -- ---- the whole update
 
-abbrev pub update_outcome : Updated → Outcome (List ℕ)
-update_outcome (UpdateRefused r) = refusing r
-update_outcome (Ran l t) = accepted (l.0 ∷ t.0 ∷ [])
+abbrev pub update_outcome : Result (Page × Page) Refusal → Outcome (List ℕ)
+update_outcome (Ok pages) = accepted (pages.0.0 ∷ pages.1.0 ∷ [])
+update_outcome (Err r) = refusing r
 
 abbrev pub choice_answer : Choice → Outcome (List ℕ)
-choice_answer (Refused stop) = refusing (publisher_refusal stop)
-choice_answer (Accepted l t) = accepted (l.0 ∷ t.0 ∷ [])
+choice_answer (Ok pages) = accepted (pages.0.0 ∷ pages.1.0 ∷ [])
+choice_answer (Err stop) = refusing (publisher_refusal stop)
 
 -- 1, 10, 3, 4, 5, 20, 9, 8, or L and T
 abbrev pub update_answer : ℕ → UpdateKind → List ℕ → List ℕ → ℕ → Outcome (List ℕ)
@@ -89,6 +86,6 @@ updated_image n kind number img new p events = run_for n events (opened (publish
 -- whole update leaves, which is the same in every kind.
 pub record ReadsAs (n : ℕ) (kind : UpdateKind) (img new : List ℕ) (p events : ℕ) (after : List ℕ) : Type 0 where
   pub refused : (k : ℕ) (values : List ℕ) → update_answer n kind img new p ≡ Rattle.base_types.specs.Outcome.refused k values → after ≡ img
-  pub reads : (l t : Page) → choice_of n kind.placement img new p ≡ Accepted l t → (q : ℕ) → q < n → (q ≡ t.0 → ⊥)
+  pub reads : (l t : Page) → choice_of n kind.placement img new p ≡ Ok (l, t) → (q : ℕ) → q < n → (q ≡ t.0 → ⊥)
       → read_of n after q ≡ cond (ltb events (shown_of kind)) (read_of n img q) (moved l.0 t.0 new (read_of n img q))
-  pub whole : (l t : Page) → choice_of n kind.placement img new p ≡ Accepted l t → total_of kind ≤ events → after ≡ image_left n img new l t
+  pub whole : (l t : Page) → choice_of n kind.placement img new p ≡ Ok (l, t) → total_of kind ≤ events → after ≡ image_left n img new l t

@@ -1,3 +1,2 @@
-pub mod Eight
 pub mod Judged
 pub mod Pages

@@ -1,6 +1,8 @@
 -- What a caller in C is told: a code, and the bytes of an answer.
-use Rattle.std.specs.Prelude.{ℕ, Bool, List, [], ◌∷◌, eqb, length, get_or}
-use Rattle.base_types.specs.Outcome.{Outcome, refused, accepted}
+use Rattle.std.specs.Prelude.{ℕ, Bool, List, [], ◌∷◌, Result, Ok, Err, eqb, length, get_or}
+use Rattle.base_types.specs.declared.address.Page.{Page}
+use Rattle.base_types.specs.declared.refusal.Refusal.{Refusal}
+use Rattle.base_types.specs.Outcome.{Outcome, refused, accepted, refusing}
 use Rattle.bus_events.specs.Codes.{code_of}
 use Rattle.bus_scripts.specs.Next.{Next, send, tells}
 use Rattle.chip_memory.specs.Page.{copied}
@@ -9,6 +11,21 @@ use Rattle.chip_memory.specs.Page.{copied}
 abbrev pub code_in : {A : Type 0} → Outcome A → ℕ
 code_in (refused number values) = number
 code_in (accepted a) = 0
+
+-- what a result of the code tells, where values_of are the values of what it holds
+abbrev pub told_by : {A : Type 0} → (A → List ℕ) → Result A Refusal → Outcome (List ℕ)
+told_by values_of (Ok a) = accepted (values_of a)
+told_by values_of (Err r) = refusing r
+
+-- the values of a page; of a page and the hops to it; of L and T
+abbrev pub page_values : Page → List ℕ
+page_values page = page.0 ∷ []
+
+abbrev pub final_values : Page × ℕ → List ℕ
+final_values found = found.0.0 ∷ found.1 ∷ []
+
+abbrev pub update_pages : Page × Page → List ℕ
+update_pages pages = pages.0.0 ∷ pages.1.0 ∷ []
 
 -- a buffer for an answer has sixteen bytes
 unfoldable pub is_answer : List ℕ → Bool

@@ -1,19 +1,18 @@
 use Prim.Native.Nat.{ℕ, ◌<◌, ◌≤◌}
 use mathlib.Core.Path.{◌≡◌, refl, sym, ap, ◌∙◌}
-use mathlib.Core.Bool.{Bool, true, false, cond, ◌&&◌}
+use mathlib.Core.Bool.{Bool, true, false, cond}
 use mathlib.Core.List.{List, [], ◌∷◌, ◌++◌, map}
-use native.Mathlib.Omega.{arith}
 use lib.Dec.{eqb, ltb}
 use lib.ListN.{length, length-map}
 use borrow.Author.Tests.{eq-eqb, lt-ltb, le-ltb}
+use Rattle.std.proofs.Common.{Err}
+use Rattle.std.proofs.Math.Bool.{and-false}
 use Rattle.base_types.specs.Bits.{one}
 use Rattle.base_types.specs.Outcome.{accepted, done}
 use Rattle.chip_memory.specs.Layout.{is_image, is_page}
 use Rattle.master_number.specs.NumberRead.{number_begun}
 use Rattle.master_page.specs.PageRead.{start_answer}
 use Rattle.master_page.specs.Held.{page_started}
-use Rattle.master_publisher.specs.declared.Choice.{Choice}
-use Rattle.master_publisher.specs.declared.Choice.TheVariants.{Refused}
 use Rattle.master_publisher.specs.Start as publish
 use Rattle.master_plan.specs.declared.kind.UpdateKind.{UpdateKind}
 use Rattle.master_publisher.specs.declared.PublisherStop.TheVariants.{ImageLength}
@@ -25,7 +24,7 @@ use Rattle.plug_answers.specs.Answers.{is_answer}
 use Rattle.plug_reader_calls.specs.Number.{number_run_judged, number_run_outcome, number_run_events}
 use Rattle.plug_reader_calls.specs.Page.{page_run_judged, page_run_outcome, page_run_events, page_run_buffer}
 use Rattle.plug_publisher_calls.specs.Publisher.{publisher_run_judged, publisher_run_outcome, publisher_run_events}
-use Rattle.plug_call_laws.specs.Laws.{given, Buffers, Shows, Refuses, RunLaws}
+use Rattle.plug_call_laws.specs.Laws.{given, Buffers, Shows, RunLaws}
 
 -- ---- the premises as the judgements have them
 
@@ -43,19 +42,15 @@ mean (false ∷ replies) = ap (λ (l : List Bool). false ∷ l) (mean replies)
 are_not : (first later : List ℕ) (b : ℕ) → 2 ≤ b → are_replies (first ++ (b ∷ later)) ≡ false
 unfolding are_replies
 are_not [] later b h = simp (le-ltb b 2 h)
-are_not (c ∷ first) later b h = ap (λ (r : Bool). ltb c 2 && r) (are_not first later b h) ∙ never (ltb c 2)
-  where
-    never : (a : Bool) → (a && false) ≡ false
-    never true = refl
-    never false = refl
+are_not (c ∷ first) later b h = rw (are_not first later b h) (and-false (ltb c 2))
 
 sized : (n : ℕ) (kind : UpdateKind) (img new : List ℕ) (p : ℕ) → publish.publisher_answer n kind img new p ≡ accepted [] → is_image n img ≡ true
 unfolding publish.choice_of
 sized n kind img new p e = go (is_image n img) _ e
   where
-    go : (b : Bool) (rest : Choice) → publish.choice_outcome (cond b rest (Refused ImageLength)) ≡ accepted [] → b ≡ true
+    go : (b : Bool) (rest : publish.Choice) → publish.choice_outcome (cond b rest (Err ImageLength)) ≡ accepted [] → b ≡ true
     go true rest e = refl
-    go false rest e = absurd (let y : ◌≡◌ {A = ℕ} 0 1 = cc in omega arith)
+    go false rest e = cc
 
 module _ (replies : List Bool) (events answer : List ℕ) (l : Buffers replies events answer) where
   sixteen : is_answer answer ≡ true

@@ -3,6 +3,8 @@ ghost use Rattle.std.specs.Prelude.{◌≡◌};
 ghost use Rattle.plug_answers.specs.Answers.{code_in};
 ghost use Rattle.plug_chip_calls.specs.Chip.{whole_answer, whole_image, whole_replies, power_answer, power_state, events_answer, events_state, events_image, events_replies};
 
+use plug_answers::answer;
+
 // The events, a byte each, on a chip with this number from power-up on; a byte for each reply. Refused: 1, 2, 10.
 #[unsafe(no_mangle)]
 pub extern "C" fn plug_chip_run(
@@ -15,7 +17,7 @@ pub extern "C" fn plug_chip_run(
     ensures image { image.new ≡ whole_image 64 number.now events.now image.old replies.old }
     ensures replies { replies.new ≡ whole_replies 64 number.now events.now image.old replies.old }
 {
-    plug_chip_calls::run(number, events, image, replies)
+    answer::code(plug_chip_calls::run(number, events, image, replies))
 }
 
 // The state of a chip with this number at power-up. Refused: 10.
@@ -24,7 +26,7 @@ pub extern "C" fn plug_chip_power_up(number: &[u8], state: &mut [u8]) -> u32
     ensures code { result ≡ code_in (power_answer number.now state.old) }
     ensures state { state.new ≡ power_state number.now state.old }
 {
-    plug_chip_calls::power_up(number, state)
+    answer::code(plug_chip_calls::power_up(number, state))
 }
 
 // So many events, a byte each, on a chip with this state; a byte for each reply. Refused: 1, 2, 10.
@@ -40,5 +42,5 @@ pub extern "C" fn plug_chip_events(
     ensures image { image.new ≡ events_image 64 state.old events.now image.old replies.old }
     ensures replies { replies.new ≡ events_replies 64 state.old events.now image.old replies.old }
 {
-    plug_chip_calls::events(state, events, image, replies)
+    answer::code(plug_chip_calls::events(state, events, image, replies))
 }

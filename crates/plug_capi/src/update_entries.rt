@@ -5,6 +5,7 @@ ghost use Rattle.plug_answers.specs.Answers.{code_in, answered};
 ghost use Rattle.plug_publisher_calls.specs.Update.{update_values, update_image};
 
 use master_plan::kind;
+use plug_answers::answer;
 use plug_publisher_calls::update;
 
 // In the ordinary mode.
@@ -21,7 +22,10 @@ pub extern "C" fn plug_update(
     ensures answer { answer.new ≡ answered (update_values 64 ordinary image.old number.now new.now page answer.old) answer.old }
     ensures image { image.new ≡ update_image 64 ordinary image.old number.now new.now page events answer.old }
 {
-    update::update_in(kind::ordinary(), image, number, new, page, events, answer)
+    answer::tell(
+        update::update_in(kind::ordinary(), image, number, new, page, events, answer),
+        answer,
+    )
 }
 
 // In the quick mode.
@@ -38,5 +42,8 @@ pub extern "C" fn plug_update_quick(
     ensures answer { answer.new ≡ answered (update_values 64 quick image.old number.now new.now page answer.old) answer.old }
     ensures image { image.new ≡ update_image 64 quick image.old number.now new.now page events answer.old }
 {
-    update::update_in(kind::quick(), image, number, new, page, events, answer)
+    answer::tell(
+        update::update_in(kind::quick(), image, number, new, page, events, answer),
+        answer,
+    )
 }

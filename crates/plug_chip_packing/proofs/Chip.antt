@@ -1,13 +1,15 @@
 -- The chip's state and its bytes.
 use Prim.Native.Nat.{ℕ, zero, suc, ◌≤◌, ◌<◌}
-use mathlib.Core.Path.{◌≡◌, refl, sym, ◌∙◌}
+use mathlib.Core.Path.{◌≡◌, refl}
 use mathlib.Core.Logic.{◌≢◌}
-use mathlib.Core.Bool.{Bool, ◌&&◌}
+use mathlib.Core.Bool.{true, ◌&&◌}
 use mathlib.Core.List.{List, [], ◌∷◌, ◌++◌}
 use native.Mathlib.Omega.{arith}
 use lib.Dec.{eqb, ltb}
+use Rattle.std.specs.Bool.{then_some}
+use Rattle.std.proofs.Common.{None}
 use lib.ListN.{length, replicate, get_or}
-use borrow.Author.Tests.{le-ltb}
+use borrow.Author.Tests.{le-ltb, ne_eqb}
 use Rattle.base_types.specs.declared.address.Space.TheVariants.{Data as DataSpace, Status as StatusSpace}
 use Rattle.base_types.specs.declared.address.Target.{Target}
 use Rattle.base_types.specs.declared.address.Target.TheVariants.{Data, Status}
@@ -17,19 +19,46 @@ use Rattle.chip_rom.specs.declared.RomStep.TheVariants.{Read, Match, SearchBit, 
 use Rattle.chip_rom.specs.declared.RomStage.TheVariants.{Command as RomCommand, Number}
 use Rattle.chip_stage.specs.declared.stage.Command.{Command}
 use Rattle.chip_stage.specs.declared.stage.Command.TheVariants.{ReadMemory, ReadStatus, ExtendedRead, Write}
+use Rattle.chip_stage.specs.declared.stage.Incoming.{Incoming}
 use Rattle.chip_stage.specs.declared.stage.Incoming.TheVariants.{Command as CommandByte, AddressLow, AddressHigh, Data as DataByte}
+use Rattle.chip_stage.specs.declared.stage.Outgoing.{Outgoing}
 use Rattle.chip_stage.specs.declared.stage.Outgoing.TheVariants.{MemoryData, MemoryCrc, StatusData, StatusCrc, RedirectionByte, RedirectionCrc}
 use Rattle.chip_stage.specs.declared.stage.Outgoing.TheVariants.{PageData, PageCrc, WriteCrc, ReadBack}
 use Rattle.chip_stage.specs.declared.stage.MemoryStage.TheVariants.{Silent, Receive, Send, Armed}
 use Rattle.chip_entries.specs.declared.event.Stage.{Stage}
 use Rattle.chip_entries.specs.declared.event.Stage.TheVariants.{Rom, Memory}
 use Rattle.chip_entries.specs.declared.event.State.{State}
-use Rattle.plug_fields.specs.Fields.{word, joined, padded, same, rest_at}
+use Rattle.plug_fields.specs.Fields.{word, joined, padded, same, rest_at, is_copy, mode_of}
 use Rattle.plug_chip_packing.specs.Chip.{write_tag, command_tag, command_of, step_tag, rom_step_of, target_tag, target_address, target_of, incoming_bytes}
-use Rattle.plug_chip_packing.specs.Chip.{incoming_of, outgoing_bytes, addressed_of, outgoing_of, rom_bytes, memory_bytes, chip_stage_bytes, memory_of, chip_stage_of, chip_at, chip_none}
+use Rattle.plug_chip_packing.specs.Chip.{incoming_of, outgoing_bytes, addressed_of, outgoing_of, rom_bytes, memory_bytes, chip_stage_bytes, word_at, memory_of, chip_stage_of, chip_at, chip_none}
 use Rattle.plug_chip_packing.specs.Chip.{chip_bytes, chip_state_of, is_chip_state, ChipPacking}
-use Rattle.plug_fields.proofs.Laws.{past, mode_back, halves, same_tag, same_not, same_own, low_joined, high_joined, Laws, laws}
-use Rattle.plug_chip_packing.specs.Code.Chip.{chip_stage_own}
+use Rattle.plug_fields.proofs.Laws.{past, mode_back, halves, same_tag, same_not, same_own, same_one, same_two, mode_good, low_joined, high_joined, Laws, laws}
+use Rattle.plug_chip_packing.specs.Code.Chip.{incoming_own, outgoing_own, chip_stage_own}
+
+-- ---- what comes in and what is sent take five bytes at most
+
+abbrev five : List ℕ → List ℕ → List ℕ
+five b rest = get_or b 0 0 ∷ get_or b 1 0 ∷ get_or b 2 0 ∷ get_or b 3 0 ∷ get_or b 4 0 ∷ rest
+
+pub incoming_five : (i : Incoming) → padded 7 (incoming_bytes i) ≡ five (padded 5 (incoming_bytes i)) (0 ∷ 0 ∷ [])
+unfolding incoming_bytes
+incoming_five CommandByte = refl
+incoming_five (AddressLow command) = refl
+incoming_five (AddressHigh command low) = refl
+incoming_five (DataByte mode target) = refl
+
+pub outgoing_five : (o : Outgoing) → padded 6 (outgoing_bytes o) ≡ five (padded 5 (outgoing_bytes o)) (0 ∷ [])
+unfolding outgoing_bytes
+outgoing_five (MemoryData a) = refl
+outgoing_five MemoryCrc = refl
+outgoing_five (StatusData a) = refl
+outgoing_five (StatusCrc a) = refl
+outgoing_five (RedirectionByte a) = refl
+outgoing_five (RedirectionCrc a) = refl
+outgoing_five (PageData a) = refl
+outgoing_five (PageCrc a) = refl
+outgoing_five (WriteCrc target byte) = refl
+outgoing_five (ReadBack mode target) = refl
 
 -- ---- enums by a number
 
@@ -80,23 +109,6 @@ tagged : (b : List ℕ) {tag : ℕ} → get_or b 6 0 ≡ tag → get_or b 7 0 < 
     → same 6 (padded 6 (tag ∷ word (joined (get_or b 7 0) (get_or b 8 0)))) b ≡ same 9 (replicate 3 0) b
 tagged b e h = rw (same_tag b 6 e, low_joined) (rw (same_own b 7, high_joined, same_own b 8))
 
-pub addressed_own : (b : List ℕ) (t : ℕ) → get_or b 6 0 ≡ t → t ≢ 1 → get_or b 7 0 < 256
-    → same 6 (padded 6 (outgoing_bytes (addressed_of t (joined (get_or b 7 0) (get_or b 8 0))))) b ≡ (ltb t 8 && same 9 (replicate 3 0) b)
-unfolding outgoing_bytes addressed_of
-addressed_own b zero e d h = tagged b e h
-addressed_own b (suc zero) e d h = absurd (d refl)
-addressed_own b (suc (suc zero)) e d h = tagged b e h
-addressed_own b (suc (suc (suc zero))) e d h = tagged b e h
-addressed_own b (suc (suc (suc (suc zero)))) e d h = tagged b e h
-addressed_own b (suc (suc (suc (suc (suc zero))))) e d h = tagged b e h
-addressed_own b (suc (suc (suc (suc (suc (suc zero)))))) e d h = tagged b e h
-addressed_own b (suc (suc (suc (suc (suc (suc (suc zero))))))) e d h = tagged b e h
-addressed_own b (suc (suc (suc (suc (suc (suc (suc (suc x)))))))) e d h =
-    let t = suc (suc (suc (suc (suc (suc (suc (suc x))))))) in
-    let le : 8 ≤ t = omega arith in
-    rw (past 0 t (omega arith), past 2 t (omega arith), past 3 t (omega arith), past 4 t (omega arith), past 5 t (omega arith))
-    (rw (past 6 t (omega arith), past 7 t (omega arith), le-ltb _ _ le, same_not b 6 (λ s. d (sym e ∙ s))))
-
 command_back : (c : Command) → command_of (command_tag c) ≡ c
 unfolding command_tag command_of write_tag
 command_back ReadMemory = refl
@@ -119,6 +131,138 @@ target_back : (t : Target) → target_of (target_tag t) (target_address t) ≡ t
 unfolding target_of target_tag target_address
 target_back (Data a) = refl
 target_back (Status a) = refl
+
+-- ---- what stands at a place, by its tag
+
+abbrev at : List ℕ → ℕ → ℕ
+at b i = get_or b i 0
+
+pub incoming_0 : (b : List ℕ) → at b 5 ≡ 0 → then_some (incoming_own b) (incoming_of b) ≡ then_some (same 6 (replicate 6 0) b) CommandByte
+unfolding incoming_own incoming_of incoming_bytes
+incoming_0 b e = rw (e, same_tag b 5 e)
+
+pub incoming_1 : (b : List ℕ) → at b 5 ≡ 1 → then_some (incoming_own b) (incoming_of b)
+    ≡ then_some (ltb (at b 6) 7 && same 7 (replicate 5 0) b) (AddressLow (command_of (at b 6)))
+unfolding incoming_own incoming_of incoming_bytes
+incoming_1 b e = rw (e, same_tag b 5 e, same_one b 6, command_good)
+
+pub incoming_2 : (b : List ℕ) → at b 5 ≡ 2 → then_some (incoming_own b) (incoming_of b)
+    ≡ then_some (ltb (at b 6) 7 && same 8 (replicate 4 0) b) (AddressHigh (command_of (at b 6)) (at b 7))
+unfolding incoming_own incoming_of incoming_bytes
+incoming_2 b e = rw (e, same_tag b 5 e, same_one b 6, command_good, same_own b 7)
+
+pub incoming_3 : (b : List ℕ) → at b 5 ≡ 3 → at b 8 < 256 → then_some (incoming_own b) (incoming_of b)
+    ≡ then_some ((ltb (at b 6) 2 && ltb (at b 7) 2) && same 10 (replicate 2 0) b) (DataByte (mode_of (at b 6)) (target_of (at b 7) (word_at b 8)))
+unfolding incoming_own incoming_of incoming_bytes
+incoming_3 b e h8 = rw (e, same_tag b 5 e, same_two b 6, mode_good, target_good, target_at_lem, low_joined) (rw (same_own b 8, high_joined, same_own b 9))
+
+pub incoming_none : (b : List ℕ) → at b 5 ≢ 0 → at b 5 ≢ 1 → at b 5 ≢ 2 → at b 5 ≢ 3 → then_some (incoming_own b) (incoming_of b) ≡ None
+unfolding incoming_own incoming_of incoming_bytes
+incoming_none b d0 d1 d2 d3 = rw (ne_eqb _ _ d1, ne_eqb _ _ d2, ne_eqb _ _ d3, same_not b 5 d0)
+
+pub ruleset incoming_rows = (incoming_0, incoming_1, incoming_2, incoming_3, incoming_none)
+
+pub outgoing_0 : (b : List ℕ) → at b 6 ≡ 0 → at b 7 < 256 → then_some (outgoing_own b) (outgoing_of b)
+    ≡ then_some (same 9 (replicate 3 0) b) (MemoryData (record { 0 = word_at b 7 }))
+unfolding outgoing_own outgoing_of outgoing_bytes addressed_of
+outgoing_0 b e h7 = rw (e, tagged b e h7)
+
+pub outgoing_1 : (b : List ℕ) → at b 6 ≡ 1 → then_some (outgoing_own b) (outgoing_of b) ≡ then_some (same 7 (replicate 5 0) b) MemoryCrc
+unfolding outgoing_own outgoing_of outgoing_bytes addressed_of
+outgoing_1 b e = rw (e, same_tag b 6 e)
+
+pub outgoing_2 : (b : List ℕ) → at b 6 ≡ 2 → at b 7 < 256 → then_some (outgoing_own b) (outgoing_of b)
+    ≡ then_some (same 9 (replicate 3 0) b) (StatusData (record { 0 = word_at b 7 }))
+unfolding outgoing_own outgoing_of outgoing_bytes addressed_of
+outgoing_2 b e h7 = rw (e, tagged b e h7)
+
+pub outgoing_3 : (b : List ℕ) → at b 6 ≡ 3 → at b 7 < 256 → then_some (outgoing_own b) (outgoing_of b)
+    ≡ then_some (same 9 (replicate 3 0) b) (StatusCrc (record { 0 = word_at b 7 }))
+unfolding outgoing_own outgoing_of outgoing_bytes addressed_of
+outgoing_3 b e h7 = rw (e, tagged b e h7)
+
+pub outgoing_4 : (b : List ℕ) → at b 6 ≡ 4 → at b 7 < 256 → then_some (outgoing_own b) (outgoing_of b)
+    ≡ then_some (same 9 (replicate 3 0) b) (RedirectionByte (record { 0 = word_at b 7 }))
+unfolding outgoing_own outgoing_of outgoing_bytes addressed_of
+outgoing_4 b e h7 = rw (e, tagged b e h7)
+
+pub outgoing_5 : (b : List ℕ) → at b 6 ≡ 5 → at b 7 < 256 → then_some (outgoing_own b) (outgoing_of b)
+    ≡ then_some (same 9 (replicate 3 0) b) (RedirectionCrc (record { 0 = word_at b 7 }))
+unfolding outgoing_own outgoing_of outgoing_bytes addressed_of
+outgoing_5 b e h7 = rw (e, tagged b e h7)
+
+pub outgoing_6 : (b : List ℕ) → at b 6 ≡ 6 → at b 7 < 256 → then_some (outgoing_own b) (outgoing_of b)
+    ≡ then_some (same 9 (replicate 3 0) b) (PageData (record { 0 = word_at b 7 }))
+unfolding outgoing_own outgoing_of outgoing_bytes addressed_of
+outgoing_6 b e h7 = rw (e, tagged b e h7)
+
+pub outgoing_7 : (b : List ℕ) → at b 6 ≡ 7 → at b 7 < 256 → then_some (outgoing_own b) (outgoing_of b)
+    ≡ then_some (same 9 (replicate 3 0) b) (PageCrc (record { 0 = word_at b 7 }))
+unfolding outgoing_own outgoing_of outgoing_bytes addressed_of
+outgoing_7 b e h7 = rw (e, tagged b e h7)
+
+pub outgoing_8 : (b : List ℕ) → at b 6 ≡ 8 → at b 9 < 256 → then_some (outgoing_own b) (outgoing_of b)
+    ≡ then_some (ltb (at b 8) 2 && same 11 (replicate 1 0) b) (WriteCrc (target_of (at b 8) (word_at b 9)) (at b 7))
+unfolding outgoing_own outgoing_of outgoing_bytes addressed_of
+outgoing_8 b e h9 =
+    rw (e, same_tag b 6 e, same_own b 7, same_one b 8, target_good, target_at_lem, low_joined)
+    (rw (same_own b 9, high_joined, same_own b 10))
+
+pub outgoing_9 : (b : List ℕ) → at b 6 ≡ 9 → at b 9 < 256 → then_some (outgoing_own b) (outgoing_of b)
+    ≡ then_some ((ltb (at b 7) 2 && ltb (at b 8) 2) && same 11 (replicate 1 0) b) (ReadBack (mode_of (at b 7)) (target_of (at b 8) (word_at b 9)))
+unfolding outgoing_own outgoing_of outgoing_bytes addressed_of
+outgoing_9 b e h9 =
+    rw (e, same_tag b 6 e, same_two b 7, mode_good, target_good, target_at_lem, low_joined)
+    (rw (same_own b 9, high_joined, same_own b 10))
+
+pub outgoing_none : (b : List ℕ) → at b 6 ≢ 0 → at b 6 ≢ 1 → at b 6 ≢ 2 → at b 6 ≢ 3 → at b 6 ≢ 4 → at b 6 ≢ 5
+    → at b 6 ≢ 6 → at b 6 ≢ 7 → at b 6 ≢ 8 → at b 6 ≢ 9
+    → then_some (outgoing_own b) (outgoing_of b) ≡ None
+unfolding outgoing_own outgoing_of outgoing_bytes addressed_of
+outgoing_none b d0 d1 d2 d3 d4 d5 d6 d7 d8 d9 = rw (ne_eqb _ _ d8, ne_eqb _ _ d9, ne_eqb _ _ d0, ne_eqb _ _ d2) (rw (ne_eqb _ _ d3, ne_eqb _ _ d4, ne_eqb _ _ d5, ne_eqb _ _ d6, ne_eqb _ _ d7, same_not b 6 d1))
+
+pub ruleset outgoing_rows =
+    (outgoing_0, outgoing_1, outgoing_2, outgoing_3, outgoing_4, outgoing_5, outgoing_6, outgoing_7, outgoing_8, outgoing_9, outgoing_none)
+
+pub stage_0 : (b : List ℕ) → at b 0 ≡ 0 → then_some (chip_stage_own b) (chip_stage_of b) ≡ then_some (same 1 (replicate 11 0) b) (Memory Silent)
+unfolding chip_stage_own chip_stage_of memory_of chip_stage_bytes rom_bytes memory_bytes incoming_own outgoing_own
+stage_0 b e = rw (e, same_tag b 0 e)
+
+pub stage_1 : (b : List ℕ) → at b 0 ≡ 1 → then_some (chip_stage_own b) (chip_stage_of b)
+    ≡ then_some (same 3 (replicate 9 0) b) (Rom (RomCommand (at b 1) (at b 2)))
+unfolding chip_stage_own chip_stage_of memory_of chip_stage_bytes rom_bytes memory_bytes incoming_own outgoing_own
+stage_1 b e = rw (e, same_tag b 0 e, same_own b 1, same_own b 2)
+
+pub stage_2 : (b : List ℕ) → at b 0 ≡ 2 → then_some (chip_stage_own b) (chip_stage_of b)
+    ≡ then_some (ltb (at b 1) 5 && same 3 (replicate 9 0) b) (Rom (Number (rom_step_of (at b 1)) (at b 2)))
+unfolding chip_stage_own chip_stage_of memory_of chip_stage_bytes rom_bytes memory_bytes incoming_own outgoing_own
+stage_2 b e = rw (e, same_tag b 0 e, same_one b 1, step_good, same_own b 2)
+
+pub stage_3 : (b : List ℕ) → at b 0 ≡ 3 → at b 3 < 256 → then_some (chip_stage_own b) (chip_stage_of b)
+    ≡ then_some (incoming_own b) (Memory (Receive (incoming_of b) (at b 1) (at b 2) (word_at b 3)))
+unfolding chip_stage_own chip_stage_of memory_of chip_stage_bytes rom_bytes memory_bytes incoming_own outgoing_own
+stage_3 b e h3 = rw (e, same_tag b 0 e, same_own b 1, same_own b 2, low_joined, same_own b 3, high_joined, same_own b 4)
+
+pub stage_4 : (b : List ℕ) → at b 0 ≡ 4 → at b 2 < 256 → at b 4 < 256 → then_some (chip_stage_own b) (chip_stage_of b)
+    ≡ then_some (outgoing_own b) (Memory (Send (outgoing_of b) (at b 1) (word_at b 2) (word_at b 4)))
+unfolding chip_stage_own chip_stage_of memory_of chip_stage_bytes rom_bytes memory_bytes incoming_own outgoing_own
+stage_4 b e h2 h4 =
+    rw (e, same_tag b 0 e, same_own b 1, low_joined (at b 2) _ h2, same_own b 2, high_joined (at b 2) _ h2)
+    (rw (same_own b 3, low_joined (at b 4) _ h4, same_own b 4, high_joined (at b 4) _ h4, same_own b 5))
+
+pub stage_5 : (b : List ℕ) → at b 0 ≡ 5 → at b 4 < 256 → then_some (chip_stage_own b) (chip_stage_of b)
+    ≡ then_some ((ltb (at b 2) 2 && ltb (at b 3) 2) && same 6 (replicate 6 0) b) (Memory (Armed (mode_of (at b 2)) (target_of (at b 3) (word_at b 4)) (at b 1)))
+unfolding chip_stage_own chip_stage_of memory_of chip_stage_bytes rom_bytes memory_bytes incoming_own outgoing_own
+stage_5 b e h4 =
+    rw (e, same_tag b 0 e, same_own b 1, same_two b 2, mode_good, target_good, target_at_lem, low_joined)
+    (rw (same_own b 4, high_joined, same_own b 5))
+
+pub stage_none : (b : List ℕ) → at b 0 ≢ 0 → at b 0 ≢ 1 → at b 0 ≢ 2 → at b 0 ≢ 3 → at b 0 ≢ 4 → at b 0 ≢ 5
+    → then_some (chip_stage_own b) (chip_stage_of b) ≡ None
+unfolding chip_stage_own chip_stage_of memory_of chip_stage_bytes rom_bytes memory_bytes incoming_own outgoing_own
+stage_none b d0 d1 d2 d3 d4 d5 = rw (ne_eqb _ _ d1, ne_eqb _ _ d2, ne_eqb _ _ d3, ne_eqb _ _ d4, ne_eqb _ _ d5, same_not b 0 d0)
+
+pub ruleset stage_rows = (stage_0, stage_1, stage_2, stage_3, stage_4, stage_5, stage_none)
 
 -- ---- stages
 
@@ -152,14 +296,21 @@ chip = laws _ _ _ _ _ _ _ (omega arith) (λ b. refl) refl back
     back : (s : State) → rest_at 8 (chip_bytes s) ≡ s.number → chip_at (chip_bytes s) (chip_stage_of (chip_bytes s)) ≡ s
     back s rest = simp (chip_stage_back s.stage (padded 4 []) s.number, rest)
 
-pub chip_held : (b : List ℕ) → length b ≡ 24 → chip_state_of b ≡ chip_at b (chip_stage_of b)
-unfolding chip_state_of
-chip_held b e = chip.held b e
-
-pub chip_judged_lem : (b : List ℕ) → length b ≡ 24 → is_chip_state b ≡ (chip_stage_own b && same 12 (replicate 4 0) b)
+pub chip_read : (b : List ℕ) → length b ≡ 24
+    → then_some (is_chip_state b) (chip_state_of b) ≡ then_some (chip_stage_own b && same 12 (replicate 4 0) b) (chip_at b (chip_stage_of b))
 unfolding is_chip_state chip_stage_own chip_state_of chip_bytes
-chip_judged_lem b e = chip.judged b e
+chip_read b e = rw (chip.judged b e, chip.held b e)
+
+pub chip_none_lem : (b : List ℕ) → length b ≢ 24 → then_some (is_chip_state b) (chip_state_of b) ≡ None
+unfolding is_chip_state is_copy
+chip_none_lem b d = rw (ne_eqb _ _ d)
 
 pub chip_packing : ChipPacking
 unfolding chip_bytes chip_state_of is_chip_state
 chip_packing = chip.inverse
+
+pub chip_back : (s : State) → length s.number ≡ 8 → chip_state_of (chip_bytes s) ≡ s
+chip_back s e = chip_packing.state_back s e
+
+pub chip_kept : (s : State) → length s.number ≡ 8 → is_chip_state (chip_bytes s) ≡ true
+chip_kept s e = chip_packing.state_kept s e

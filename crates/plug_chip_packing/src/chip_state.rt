@@ -1,70 +1,56 @@
 // The chip's state as 24 bytes: specs/Chip.antt has the layout.
-ghost use Rattle.std.specs.Prelude.{◌≡◌, true, [], ◌∷◌, ◌++◌, ◌+◌, ◌<◌, length};
-ghost use Rattle.base_types.specs.Outcome.{judged_outcome};
-ghost use Rattle.chip_stage.specs.declared.stage.MemoryStage.TheVariants.{Receive, Send};
-ghost use Rattle.plug_fields.specs.Fields.{word, front};
-ghost use Rattle.plug_chip_packing.specs.Chip.{write_tag, command_tag, command_of, target_tag, target_address, target_bytes, target_of, step_tag, rom_step_of};
-ghost use Rattle.plug_chip_packing.specs.Chip.{rom_bytes, memory_bytes, chip_stage_bytes, word_at, target_at, incoming_of, addressed_of, outgoing_of, memory_of, chip_stage_of};
-ghost use Rattle.plug_chip_packing.specs.Chip.{chip_at, chip_none, chip_bytes, chip_state_of, is_chip_state, chip_judged, chip_packed, chip_buffer};
+ghost use Rattle.std.specs.Prelude.{◌≡◌, true, [], ◌∷◌, nat_lt};
+ghost use Rattle.std.specs.Bool.{then_some};
+ghost use Rattle.base_types.specs.Outcome.{outcome_of};
+ghost use Rattle.plug_fields.specs.Fields.{front, padded, word};
+ghost use Rattle.plug_chip_packing.specs.Chip.{command_tag, command_of, target_bytes, target_of, step_tag, rom_step_of};
+ghost use Rattle.plug_chip_packing.specs.Chip.{incoming_bytes, outgoing_bytes, chip_stage_bytes, incoming_of, outgoing_of, chip_stage_of};
+ghost use Rattle.plug_chip_packing.specs.Chip.{chip_bytes, chip_state_of, is_chip_state, chip_unpacked, chip_packed, chip_buffer};
 ghost use Rattle.plug_chip_packing.specs.Code.Chip.{incoming_own, outgoing_own, chip_stage_own};
 
 use base_types::address::{DataAddress, Space, StatusAddress, Target};
-use base_types::refusal::{Judged, Refusal};
+use base_types::refusal::Refusal;
 use base_types::write_mode::WriteMode;
 use chip_entries::event::{Stage, State};
 use chip_rom::{RomStage, RomStep};
 use chip_stage::stage::{Command, Incoming, MemoryStage, Outgoing};
+use plug_fields::{join, mode_byte, mode_of, padded, word, zeros};
 
-// The state that bytes hold, with 2 where they hold none.
-#[derive(Clone, Copy)]
-pub struct Unpacked {
-    pub judged: Judged,
-    pub state: State,
-}
+// ---- enums by a number, and the other way, where a number is that of one: no From, which the enums' own crates alone could have
 
-// ---- enums by a number
-
-fn number_of_write(mode: WriteMode, space: Space) -> u8
-    ensures { result ≡ write_tag mode space }
-{
-    match mode {
-        WriteMode::Ordinary => match space {
-            Space::Data => 3,
-            Space::Status => 4,
-        },
-        WriteMode::Quick => match space {
-            Space::Data => 5,
-            Space::Status => 6,
-        },
-    }
-}
-
-fn number_of_command(command: Command) -> u8
+#[tactic(auto, unfolding(crate::specs::Chip::command_tag, crate::specs::Chip::write_tag))]
+fn command_tag(command: Command) -> u8
     ensures { result ≡ command_tag command }
 {
     match command {
         Command::ReadMemory => 0,
         Command::ReadStatus => 1,
         Command::ExtendedRead => 2,
-        Command::Write(mode, space) => number_of_write(mode, space),
+        Command::Write(WriteMode::Ordinary, Space::Data) => 3,
+        Command::Write(WriteMode::Ordinary, Space::Status) => 4,
+        Command::Write(WriteMode::Quick, Space::Data) => 5,
+        Command::Write(WriteMode::Quick, Space::Status) => 6,
     }
 }
 
-fn command_of(number: u8) -> Command
-    ensures { result ≡ command_of number }
+#[tactic(auto, unfolding(crate::specs::Chip::command_of))]
+fn command_of(number: u8) -> Option<Command>
+    ensures { result ≡ then_some (nat_lt number 7) (command_of number) }
 {
-    match number {
+    Some(match number {
         0 => Command::ReadMemory,
         1 => Command::ReadStatus,
         2 => Command::ExtendedRead,
         3 => Command::Write(WriteMode::Ordinary, Space::Data),
         4 => Command::Write(WriteMode::Ordinary, Space::Status),
         5 => Command::Write(WriteMode::Quick, Space::Data),
-        _ => Command::Write(WriteMode::Quick, Space::Status),
-    }
+        6 => Command::Write(WriteMode::Quick, Space::Status),
+        _ => return None,
+    })
 }
 
-fn number_of_step(step: RomStep) -> u8
+#[tactic(auto, unfolding(crate::specs::Chip::step_tag))]
+fn step_tag(step: RomStep) -> u8
     ensures { result ≡ step_tag step }
 {
     match step {
@@ -76,406 +62,219 @@ fn number_of_step(step: RomStep) -> u8
     }
 }
 
-fn step_of(number: u8) -> RomStep
-    ensures { result ≡ rom_step_of number }
+#[tactic(auto, unfolding(crate::specs::Chip::rom_step_of))]
+fn step_of(number: u8) -> Option<RomStep>
+    ensures { result ≡ then_some (nat_lt number 5) (rom_step_of number) }
 {
-    match number {
+    Some(match number {
         0 => RomStep::Read,
         1 => RomStep::Match,
         2 => RomStep::SearchBit,
         3 => RomStep::SearchComplement,
-        _ => RomStep::SearchTake,
-    }
+        4 => RomStep::SearchTake,
+        _ => return None,
+    })
 }
 
-fn number_of_target(target: Target) -> u8
-    ensures { result ≡ target_tag target }
+#[tactic(auto, unfolding(crate::specs::Chip::target_tag, crate::specs::Chip::target_address))]
+fn target_bytes(target: Target) -> [u8; 3]
+    ensures { result ≡ target_bytes target }
 {
+    let [l, h] = word(target.address());
     match target {
-        Target::Data(_) => 0,
-        Target::Status(_) => 1,
+        Target::Data(_) => [0, l, h],
+        Target::Status(_) => [1, l, h],
     }
 }
 
-fn address_of_target(target: Target) -> u16
-    ensures { result ≡ target_address target }
-{
-    match target {
-        Target::Data(a) => a.0,
-        Target::Status(a) => a.0,
-    }
-}
-
-fn target_of(number: u8, address: u16) -> Target
-    ensures { result ≡ target_of number address }
+#[tactic(auto, unfolding(crate::specs::Chip::target_of))]
+fn target_of(number: u8, address: u16) -> Option<Target>
+    ensures { result ≡ then_some (nat_lt number 2) (target_of number address) }
 {
     match number {
-        0 => Target::Data(DataAddress(address)),
-        _ => Target::Status(StatusAddress(address)),
+        0 => Some(Target::Data(DataAddress(address))),
+        1 => Some(Target::Status(StatusAddress(address))),
+        _ => None,
     }
 }
 
 // ---- into bytes
 
-fn front_of_rom(stage: RomStage) -> [u8; 16]
-    ensures { result ≡ front 12 (rom_bytes stage) [] }
+// What comes in, and zeros.
+#[tactic(auto, unfolding(crate::specs::Chip::incoming_bytes))]
+fn incoming_bytes(incoming: Incoming) -> [u8; 5]
+    ensures { result ≡ padded 5 (incoming_bytes incoming) }
 {
-    match stage {
-        RomStage::Command(n, x) => [1, n, x, 0, 0, 0, 0, 0, 0, 0, 0, 0, 0, 0, 0, 0],
-        RomStage::Number(step, i) => {
-            let s = number_of_step(step);
-            [2, s, i, 0, 0, 0, 0, 0, 0, 0, 0, 0, 0, 0, 0, 0]
-        }
-    }
-}
-
-fn front_of_receive(incoming: Incoming, n: u8, x: u8, crc: u16) -> [u8; 16]
-    ensures { result ≡ front 12 (memory_bytes (Receive incoming n x crc)) [] }
-{
-    let l = plug_fields::low(crc);
-    let h = plug_fields::high(crc);
     match incoming {
-        Incoming::Command => [3, n, x, l, h, 0, 0, 0, 0, 0, 0, 0, 0, 0, 0, 0],
-        Incoming::AddressLow(command) => {
-            let c = number_of_command(command);
-            [3, n, x, l, h, 1, c, 0, 0, 0, 0, 0, 0, 0, 0, 0]
-        }
-        Incoming::AddressHigh(command, low) => {
-            let c = number_of_command(command);
-            [3, n, x, l, h, 2, c, low, 0, 0, 0, 0, 0, 0, 0, 0]
-        }
+        Incoming::Command => [0; 5],
+        Incoming::AddressLow(command) => [1, command_tag(command), 0, 0, 0],
+        Incoming::AddressHigh(command, low) => [2, command_tag(command), low, 0, 0],
         Incoming::Data(mode, target) => {
-            let m = plug_fields::number_of_mode(mode);
-            let t = number_of_target(target);
-            let a = address_of_target(target);
-            [
-                3,
-                n,
-                x,
-                l,
-                h,
-                3,
-                m,
-                t,
-                plug_fields::low(a),
-                plug_fields::high(a),
-                0,
-                0,
-                0,
-                0,
-                0,
-                0,
-            ]
+            let [t, l, h] = target_bytes(target);
+            [3, mode_byte(mode), t, l, h]
         }
     }
 }
 
-// Something is sent that has a tag and an address.
-fn sent(left: u8, bits: u16, crc: u16, tag: u8, a: u16) -> [u8; 16]
-    ensures { result ≡ front 12 (4 ∷ left ∷ word bits ++ word crc ++ tag ∷ word a) [] }
+// A tag and an address, and zeros.
+fn addressed(tag: u8, address: u16) -> [u8; 5]
+    ensures { result ≡ padded 5 (tag ∷ word address) }
 {
-    let b = plug_fields::low(bits);
-    let d = plug_fields::high(bits);
-    let l = plug_fields::low(crc);
-    let h = plug_fields::high(crc);
-    [
-        4,
-        left,
-        b,
-        d,
-        l,
-        h,
-        tag,
-        plug_fields::low(a),
-        plug_fields::high(a),
-        0,
-        0,
-        0,
-        0,
-        0,
-        0,
-        0,
-    ]
+    let [l, h] = word(address);
+    [tag, l, h, 0, 0]
 }
 
-// Something is sent that has a tag, a byte and a target.
-fn aimed(left: u8, bits: u16, crc: u16, tag: u8, x: u8, target: Target) -> [u8; 16]
-    ensures { result ≡ front 12 (4 ∷ left ∷ word bits ++ word crc ++ tag ∷ x ∷ target_bytes target) [] }
-{
-    let b = plug_fields::low(bits);
-    let d = plug_fields::high(bits);
-    let l = plug_fields::low(crc);
-    let h = plug_fields::high(crc);
-    let t = number_of_target(target);
-    let a = address_of_target(target);
-    [
-        4,
-        left,
-        b,
-        d,
-        l,
-        h,
-        tag,
-        x,
-        t,
-        plug_fields::low(a),
-        plug_fields::high(a),
-        0,
-        0,
-        0,
-        0,
-        0,
-    ]
-}
-
-fn front_of_send(outgoing: Outgoing, left: u8, bits: u16, crc: u16) -> [u8; 16]
-    ensures { result ≡ front 12 (memory_bytes (Send outgoing left bits crc)) [] }
+// What is sent, and zeros.
+#[tactic(auto, unfolding(crate::specs::Chip::outgoing_bytes))]
+fn outgoing_bytes(outgoing: Outgoing) -> [u8; 5]
+    ensures { result ≡ padded 5 (outgoing_bytes outgoing) }
 {
     match outgoing {
-        Outgoing::MemoryData(a) => sent(left, bits, crc, 0, a.0),
-        Outgoing::MemoryCrc => sent(left, bits, crc, 1, 0),
-        Outgoing::StatusData(a) => sent(left, bits, crc, 2, a.0),
-        Outgoing::StatusCrc(a) => sent(left, bits, crc, 3, a.0),
-        Outgoing::RedirectionByte(a) => sent(left, bits, crc, 4, a.0),
-        Outgoing::RedirectionCrc(a) => sent(left, bits, crc, 5, a.0),
-        Outgoing::PageData(a) => sent(left, bits, crc, 6, a.0),
-        Outgoing::PageCrc(a) => sent(left, bits, crc, 7, a.0),
-        Outgoing::WriteCrc(target, x) => aimed(left, bits, crc, 8, x, target),
+        Outgoing::MemoryData(a) => addressed(0, a.0),
+        Outgoing::MemoryCrc => addressed(1, 0),
+        Outgoing::StatusData(a) => addressed(2, a.0),
+        Outgoing::StatusCrc(a) => addressed(3, a.0),
+        Outgoing::RedirectionByte(a) => addressed(4, a.0),
+        Outgoing::RedirectionCrc(a) => addressed(5, a.0),
+        Outgoing::PageData(a) => addressed(6, a.0),
+        Outgoing::PageCrc(a) => addressed(7, a.0),
+        Outgoing::WriteCrc(target, x) => {
+            let [t, l, h] = target_bytes(target);
+            [8, x, t, l, h]
+        }
         Outgoing::ReadBack(mode, target) => {
-            aimed(
-                left,
-                bits,
-                crc,
-                9,
-                plug_fields::number_of_mode(mode),
-                target,
-            )
+            let [t, l, h] = target_bytes(target);
+            [9, mode_byte(mode), t, l, h]
         }
     }
 }
 
-fn front_of_memory(stage: MemoryStage) -> [u8; 16]
-    ensures { result ≡ front 12 (memory_bytes stage) [] }
-{
-    match stage {
-        MemoryStage::Silent => [0, 0, 0, 0, 0, 0, 0, 0, 0, 0, 0, 0, 0, 0, 0, 0],
-        MemoryStage::Receive(incoming, n, x, crc) => front_of_receive(incoming, n, x, crc),
-        MemoryStage::Send(outgoing, left, bits, crc) => front_of_send(outgoing, left, bits, crc),
-        MemoryStage::Armed(mode, target, x) => {
-            let m = plug_fields::number_of_mode(mode);
-            let t = number_of_target(target);
-            let a = address_of_target(target);
-            [
-                5,
-                x,
-                m,
-                t,
-                plug_fields::low(a),
-                plug_fields::high(a),
-                0,
-                0,
-                0,
-                0,
-                0,
-                0,
-                0,
-                0,
-                0,
-                0,
-            ]
-        }
-    }
-}
-
+#[tactic(auto, using(crate::proofs::Chip::incoming_five, crate::proofs::Chip::outgoing_five), unfolding(crate::specs::Chip::chip_stage_bytes, crate::specs::Chip::rom_bytes, crate::specs::Chip::memory_bytes))]
 fn front_of(stage: Stage) -> [u8; 16]
     ensures { result ≡ front 12 (chip_stage_bytes stage) [] }
 {
     match stage {
-        Stage::Rom(r) => front_of_rom(r),
-        Stage::Memory(m) => front_of_memory(m),
+        Stage::Memory(MemoryStage::Silent) => [0; 16],
+        Stage::Rom(RomStage::Command(n, x)) => padded(&[1, n, x]),
+        Stage::Rom(RomStage::Number(step, i)) => padded(&[2, step_tag(step), i]),
+        Stage::Memory(MemoryStage::Receive(incoming, n, x, crc)) => {
+            let [l, h] = word(crc);
+            let [a, b, c, d, e] = incoming_bytes(incoming);
+            padded(&[3, n, x, l, h, a, b, c, d, e])
+        }
+        Stage::Memory(MemoryStage::Send(outgoing, left, bits, crc)) => {
+            let [low, high] = word(bits);
+            let [l, h] = word(crc);
+            let [a, b, c, d, e] = outgoing_bytes(outgoing);
+            padded(&[4, left, low, high, l, h, a, b, c, d, e])
+        }
+        Stage::Memory(MemoryStage::Armed(mode, target, x)) => {
+            let [t, l, h] = target_bytes(target);
+            padded(&[5, x, mode_byte(mode), t, l, h])
+        }
     }
 }
 
-// ---- out of bytes
-// What stands at a place, and whether the bytes from there to the end of the enum's are its own, are read apart: a value that is handed on
-// with a flag beside it is dear to check.
+// ---- out of bytes: what stands at a place, if the bytes from there to the end of the stage's are its own
 
-fn incoming_own(b: &[u8]) -> bool
-    requires { length b.now ≡ 24 }
-    ensures { result ≡ incoming_own b.now }
-{
-    let x = b[6];
-    match b[5] {
-        0 => plug_fields::zeros(b, 6, 12),
-        1 => plug_fields::both(x < 7, plug_fields::zeros(b, 7, 12)),
-        2 => plug_fields::both(x < 7, plug_fields::zeros(b, 8, 12)),
-        3 => plug_fields::both(
-            plug_fields::both(x < 2, b[7] < 2),
-            plug_fields::zeros(b, 10, 12),
-        ),
-        _ => false,
-    }
-}
-
-fn outgoing_own(b: &[u8]) -> bool
-    requires { length b.now ≡ 24 }
-    ensures { result ≡ outgoing_own b.now }
-{
-    match b[6] {
-        1 => plug_fields::zeros(b, 7, 12),
-        8 => plug_fields::both(b[8] < 2, plug_fields::zeros(b, 11, 12)),
-        9 => plug_fields::both(
-            plug_fields::both(b[7] < 2, b[8] < 2),
-            plug_fields::zeros(b, 11, 12),
-        ),
-        tag => plug_fields::both(tag < 8, plug_fields::zeros(b, 9, 12)),
-    }
-}
-
-fn stage_own(b: &[u8]) -> bool
-    requires { length b.now ≡ 24 }
-    ensures { result ≡ chip_stage_own b.now }
-{
-    match b[0] {
-        0 => plug_fields::zeros(b, 1, 12),
-        1 => plug_fields::zeros(b, 3, 12),
-        2 => plug_fields::both(b[1] < 5, plug_fields::zeros(b, 3, 12)),
-        3 => incoming_own(b),
-        4 => outgoing_own(b),
-        5 => plug_fields::both(
-            plug_fields::both(b[2] < 2, b[3] < 2),
-            plug_fields::zeros(b, 6, 12),
-        ),
-        _ => false,
-    }
-}
-
-fn word_at(b: &[u8], i: usize) -> u16
-    requires { i + 1 < length b.now }
-    ensures { result ≡ word_at b.now i }
-{
-    plug_fields::join(b[i], b[i + 1])
-}
-
-fn target_at(b: &[u8], i: usize) -> Target
-    requires { i + 2 < length b.now }
-    ensures { result ≡ target_at b.now i }
-{
-    target_of(b[i], word_at(b, i + 1))
-}
-
-fn incoming_of(b: &[u8]) -> Incoming
-    requires { length b.now ≡ 24 }
-    ensures { result ≡ incoming_of b.now }
+#[tactic(auto, using(crate::proofs::Chip::incoming_rows))]
+fn incoming_of(b: &[u8; 24]) -> Option<Incoming>
+    ensures { result ≡ then_some (incoming_own b.now) (incoming_of b.now) }
 {
     match b[5] {
-        1 => Incoming::AddressLow(command_of(b[6])),
-        2 => Incoming::AddressHigh(command_of(b[6]), b[7]),
-        3 => Incoming::Data(plug_fields::mode_of(b[6]), target_at(b, 7)),
-        _ => Incoming::Command,
+        0 => zeros(b, 6, 12).then_some(Incoming::Command),
+        1 => zeros(b, 7, 12).then_some(Incoming::AddressLow(command_of(b[6])?)),
+        2 => zeros(b, 8, 12).then_some(Incoming::AddressHigh(command_of(b[6])?, b[7])),
+        3 => {
+            let mode = mode_of(b[6])?;
+            let target = target_of(b[7], join(b[8], b[9]))?;
+            zeros(b, 10, 12).then_some(Incoming::Data(mode, target))
+        }
+        _ => None,
     }
 }
 
-// What is sent and has an address alone; the CRC of memory, which has none, for a number that is that of none of these.
-fn addressed_of(number: u8, address: u16) -> Outgoing
-    ensures { result ≡ addressed_of number address }
+#[tactic(auto, using(crate::proofs::Chip::outgoing_rows))]
+fn outgoing_of(b: &[u8; 24]) -> Option<Outgoing>
+    ensures { result ≡ then_some (outgoing_own b.now) (outgoing_of b.now) }
 {
-    match number {
-        0 => Outgoing::MemoryData(DataAddress(address)),
-        2 => Outgoing::StatusData(StatusAddress(address)),
-        3 => Outgoing::StatusCrc(StatusAddress(address)),
-        4 => Outgoing::RedirectionByte(DataAddress(address)),
-        5 => Outgoing::RedirectionCrc(DataAddress(address)),
-        6 => Outgoing::PageData(DataAddress(address)),
-        7 => Outgoing::PageCrc(DataAddress(address)),
-        _ => Outgoing::MemoryCrc,
-    }
-}
-
-fn outgoing_of(b: &[u8]) -> Outgoing
-    requires { length b.now ≡ 24 }
-    ensures { result ≡ outgoing_of b.now }
-{
+    let address = join(b[7], b[8]);
     match b[6] {
-        8 => Outgoing::WriteCrc(target_at(b, 8), b[7]),
-        9 => Outgoing::ReadBack(plug_fields::mode_of(b[7]), target_at(b, 8)),
-        tag => addressed_of(tag, word_at(b, 7)),
+        0 => zeros(b, 9, 12).then_some(Outgoing::MemoryData(DataAddress(address))),
+        1 => zeros(b, 7, 12).then_some(Outgoing::MemoryCrc),
+        2 => zeros(b, 9, 12).then_some(Outgoing::StatusData(StatusAddress(address))),
+        3 => zeros(b, 9, 12).then_some(Outgoing::StatusCrc(StatusAddress(address))),
+        4 => zeros(b, 9, 12).then_some(Outgoing::RedirectionByte(DataAddress(address))),
+        5 => zeros(b, 9, 12).then_some(Outgoing::RedirectionCrc(DataAddress(address))),
+        6 => zeros(b, 9, 12).then_some(Outgoing::PageData(DataAddress(address))),
+        7 => zeros(b, 9, 12).then_some(Outgoing::PageCrc(DataAddress(address))),
+        8 => {
+            let target = target_of(b[8], join(b[9], b[10]))?;
+            zeros(b, 11, 12).then_some(Outgoing::WriteCrc(target, b[7]))
+        }
+        9 => {
+            let mode = mode_of(b[7])?;
+            let target = target_of(b[8], join(b[9], b[10]))?;
+            zeros(b, 11, 12).then_some(Outgoing::ReadBack(mode, target))
+        }
+        _ => None,
     }
 }
 
-fn memory_of(b: &[u8]) -> MemoryStage
-    requires { length b.now ≡ 24 }
-    ensures { result ≡ memory_of b.now }
-{
-    let x = b[1];
-    let y = b[2];
-    match b[0] {
-        3 => MemoryStage::Receive(incoming_of(b), x, y, word_at(b, 3)),
-        4 => MemoryStage::Send(outgoing_of(b), x, word_at(b, 2), word_at(b, 4)),
-        5 => MemoryStage::Armed(plug_fields::mode_of(y), target_at(b, 3), x),
-        _ => MemoryStage::Silent,
-    }
-}
-
-fn stage_of(b: &[u8]) -> Stage
-    requires { length b.now ≡ 24 }
-    ensures { result ≡ chip_stage_of b.now }
+#[tactic(auto, using(crate::proofs::Chip::stage_rows))]
+fn stage_of(b: &[u8; 24]) -> Option<Stage>
+    ensures { result ≡ then_some (chip_stage_own b.now) (chip_stage_of b.now) }
 {
     match b[0] {
-        1 => Stage::Rom(RomStage::Command(b[1], b[2])),
-        2 => Stage::Rom(RomStage::Number(step_of(b[1]), b[2])),
-        _ => Stage::Memory(memory_of(b)),
+        0 => zeros(b, 1, 12).then_some(Stage::Memory(MemoryStage::Silent)),
+        1 => zeros(b, 3, 12).then_some(Stage::Rom(RomStage::Command(b[1], b[2]))),
+        2 => zeros(b, 3, 12).then_some(Stage::Rom(RomStage::Number(step_of(b[1])?, b[2]))),
+        3 => {
+            let crc = join(b[3], b[4]);
+            Some(Stage::Memory(MemoryStage::Receive(incoming_of(b)?, b[1], b[2], crc)))
+        }
+        4 => {
+            let bits = join(b[2], b[3]);
+            let crc = join(b[4], b[5]);
+            Some(Stage::Memory(MemoryStage::Send(outgoing_of(b)?, b[1], bits, crc)))
+        }
+        5 => {
+            let mode = mode_of(b[2])?;
+            let target = target_of(b[3], join(b[4], b[5]))?;
+            zeros(b, 6, 12).then_some(Stage::Memory(MemoryStage::Armed(mode, target, b[1])))
+        }
+        _ => None,
     }
 }
 
 // ---- the entries
 
-fn state_at(b: &[u8]) -> State
-    requires { length b.now ≡ 24 }
-    ensures { result ≡ chip_at b.now (chip_stage_of b.now) }
+#[tactic(auto, using(crate::proofs::Chip::chip_read, crate::proofs::Chip::chip_none_lem))]
+fn state_of(bytes: &[u8]) -> Option<State>
+    ensures { result ≡ then_some (is_chip_state bytes.now) (chip_state_of bytes.now) }
 {
-    State {
-        stage: stage_of(b),
-        number: plug_fields::eight_of(b),
-    }
-}
-
-fn none() -> State
-    ensures { result ≡ chip_none }
-{
-    State {
-        stage: Stage::Memory(MemoryStage::Silent),
-        number: [0; 8],
-    }
+    let b = <&[u8; 24]>::try_from(bytes).ok()?;
+    let stage = stage_of(b)?;
+    let number = plug_fields::rest_of(b);
+    zeros(b, 12, 16).then_some(State { stage, number })
 }
 
 // The state of 24 bytes. Refused: 2 for bytes of another length and for bytes that are those of no state. A state out of its ranges
 // is no matter here: the chip refuses it.
-pub fn unpack(bytes: &[u8]) -> Unpacked
-    ensures judged { judged_outcome result.judged ≡ chip_judged bytes.now }
-    ensures state { result.state ≡ chip_state_of bytes.now }
+#[tactic(auto, unfolding(crate::specs::Chip::chip_unpacked))]
+pub fn unpack(bytes: &[u8]) -> Result<State, Refusal>
+    ensures { outcome_of result ≡ chip_unpacked bytes.now }
 {
-    if bytes.len() != 24 {
-        return Unpacked {
-            judged: Judged::Refused(Refusal::StateRange),
-            state: none(),
-        };
-    }
-    let own = stage_own(bytes);
-    Unpacked {
-        judged: plug_fields::judge(plug_fields::both(own, plug_fields::zeros(bytes, 12, 16))),
-        state: state_at(bytes),
-    }
+    state_of(bytes).ok_or(Refusal::StateRange)
 }
 
 // A state into a buffer of 24 bytes. Refused: 10. What is left there holds that state and is accepted by unpack.
-pub fn pack(state: State, bytes: &mut [u8]) -> Judged
-    ensures answer { judged_outcome result ≡ chip_packed bytes.old }
+#[tactic(auto, using(crate::proofs::Chip::chip_back, crate::proofs::Chip::chip_kept), unfolding(crate::specs::Chip::chip_packed, crate::specs::Chip::chip_buffer, crate::specs::Chip::chip_bytes))]
+pub fn pack(state: State, bytes: &mut [u8]) -> Result<(), Refusal>
+    ensures answer { outcome_of result ≡ chip_packed bytes.old }
     ensures bytes { bytes.new ≡ chip_buffer state bytes.old }
     ensures back { chip_state_of (chip_bytes state) ≡ state }
     ensures kept { is_chip_state (chip_bytes state) ≡ true }
 {
-    let stage = state.stage;
-    let number = state.number;
-    plug_fields::put(front_of(stage), &number, bytes)
+    plug_fields::put(front_of(state.stage), &state.number, bytes)
 }

@@ -1,13 +1,15 @@
 -- The laws of the kinds of fields; the comparison; what stands after the front; the whole in a buffer.
-use Prim.Native.Nat.{ℕ, zero, suc, ◌+◌, ◌-◌, ◌*◌, ◌/◌, ◌%◌, ◌<◌, ◌≤◌}
+use Prim.Native.Nat.{ℕ, zero, suc, ◌+◌, ◌-◌, ◌*◌, ◌/◌, ◌%◌, ◌<◌, ◌≤◌, min}
 use mathlib.Core.Path.{◌≡◌, refl, sym, ap, ◌∙◌}
 use mathlib.Core.Bool.{Bool, true, false, cond, ◌&&◌}
-use mathlib.Core.List.{List, [], ◌∷◌, ◌++◌, append-nil}
-use native.Mathlib.Numerals.{add-one}
+use mathlib.Core.List.{List, [], ◌∷◌, ◌++◌}
 use native.Mathlib.Omega.{arith}
 use lib.Dec.{eqb, ltb}
-use lib.ListN.{length, get_or, set, take, drop, replicate, length-append, length-replicate, length-drop, drop_of_length-le, get_or-eq_default}
-use lib.Seq.{drop-cons, take_all, drop_at}
+use native.Mathlib.Decide.{dec_lt}
+use Rattle.std.specs.List.{list_all}
+use Rattle.std.proofs.lemmas.List.{drop-take, drop_min, take_rest}
+use lib.ListN.{length, get_or, set, take, drop, replicate, length-append, length-replicate, length-take, length-drop, drop_of_length-le, get_or-eq_default}
+use lib.Seq.{drop-cons, drop_at}
 use borrow.Author.Tests.{eq-eqb, ne_eqb, eqb-true, le-ltb}
 use Rattle.base_types.specs.Bits.{one}
 use Rattle.base_types.proofs.Tests.{and_left, and_right, and_true}
@@ -82,52 +84,55 @@ field (suc r) k (x ∷ enum) fields rest =
     let z : suc r + k ≡ suc (r + k) = omega arith in
     rw z (field r k enum fields rest)
 
-pub zeros_next : (b : List ℕ) (i to : ℕ) → i < to → get_or b i 0 ≡ 0 → same (i + 1) (replicate (to - (i + 1)) 0) b ≡ same i (replicate (to - i) 0) b
-unfolding same
-zeros_next b i to lt e =
-    let n : to - i ≡ suc (to - (i + 1)) = omega arith in
-    rw (n, add-one i, e)
-
-pub zeros_not : (b : List ℕ) (i to : ℕ) → i < to → (get_or b i 0 ≡ 0 → ⊥) → false ≡ same i (replicate (to - i) 0) b
-unfolding same
-zeros_not b i to lt d =
-    let n : to - i ≡ suc (to - (i + 1)) = omega arith in
-    rw (n, ne_eqb _ _ d)
-
-pub zeros_end : (b : List ℕ) (i to : ℕ) → to ≤ i → true ≡ same i (replicate (to - i) 0) b
-unfolding same
-zeros_end b i to le =
-    let n : to - i ≡ 0 = omega arith in
-    rw n
-
 -- past the end stand zeros
 none_past : (b : List ℕ) (n i : ℕ) → length b ≤ i → same i (replicate n 0) b ≡ true
 unfolding same
 none_past b zero i le = refl
 none_past b (suc n) i le = rw (get_or-eq_default b 0 le) (none_past b n (suc i) (omega arith))
 
-zeros_cut : (b : List ℕ) (n m i : ℕ) → m ≤ n → length b ≤ i + m → same i (replicate n 0) b ≡ same i (replicate m 0) b
+-- the bytes from a place up to another, one after the other
+zeros_from : (b : List ℕ) (n i : ℕ) → list_all (λ x. eqb x 0) (take n (drop i b)) ≡ same i (replicate n 0) b
 unfolding same
-zeros_cut b n zero i le past = none_past b n i (omega arith)
-zeros_cut b zero (suc m) i le past = absurd (omega arith)
-zeros_cut b (suc n) (suc m) i le past = ap (λ (t : Bool). eqb (get_or b i 0) 0 && t) (zeros_cut b n m (suc i) (omega arith) (omega arith))
+zeros_from b zero i = refl
+zeros_from b (suc n) i = go (zeros_from b n (suc i)) (dec_lt i (length b))
+  where
+    go : list_all (λ x. eqb x 0) (take n (drop (suc i) b)) ≡ same (suc i) (replicate n 0) b → Dec (i < length b)
+        → list_all (λ x. eqb x 0) (take (suc n) (drop i b)) ≡ same i (replicate (suc n) 0) b
+    go more (yes lt) = rw (drop-cons b i 0 lt) (ap (λ (t : Bool). eqb (get_or b i 0) 0 && t) more)
+    go more (no le) = rw (drop_of_length-le b {i = i} (omega arith), none_past b (suc n) i (omega arith))
 
-pub zeros_past : (b : List ℕ) (from to : ℕ) → length b < to → same from (replicate (length b - from) 0) b ≡ same from (replicate (to - from) 0) b
-zeros_past b from to lt = sym (zeros_cut b (to - from) (length b - from) from (omega arith) (omega arith))
+zeros_cut : (from to : ℕ) (b : List ℕ) → drop from (take to b) ≡ take (to - from) (drop from b)
+zeros_cut from to b = go (dec_lt from to)
+  where
+    go : Dec (from < to) → drop from (take to b) ≡ take (to - from) (drop from b)
+    go (yes lt) =
+        let e : to ≡ from + (to - from) = omega arith in
+        ap (λ (n : ℕ). drop from (take n b)) e ∙ drop-take from (to - from) b
+    go (no le) =
+        let z : to - from ≡ 0 = omega arith in
+        rw (z, drop_of_length-le (take to b) {i = from} (simp length-take (omega arith)))
 
--- ---- what stands after the front
+pub zeros_are : (from to : ℕ) (b : List ℕ) → list_all (λ x. eqb x 0) (drop from (take to b)) ≡ same from (replicate (to - from) 0) b
+zeros_are from to b = ap (list_all (λ x. eqb x 0)) (zeros_cut from to b) ∙ zeros_from b (to - from) from
 
-pub rest_none : (n : ℕ) (b : List ℕ) → length b ≤ 16 → replicate n 0 ≡ rest_at n b
-unfolding rest_at copied
-rest_none n b le = rw drop_of_length-le
+padded_none : (n : ℕ) → padded n [] ≡ replicate n 0
+padded_none zero = refl
+padded_none (suc n) = ap (λ (l : List ℕ). 0 ∷ l) (padded_none n)
 
--- from the sixteenth byte to the end
-to_the_end : (b : List ℕ) → take (length b - 16) (drop 16 b) ≡ drop 16 b
-to_the_end b = take_all (length b - 16) (drop 16 b) (simp length-drop (omega arith))
+-- ---- so many bytes, and what stands after the front
 
-pub rest_some : (n : ℕ) (b : List ℕ) → copied (take (length b - 16) (drop 16 b)) (replicate n 0) ≡ rest_at n b
+pub padded_is : (n : ℕ) (b : List ℕ) → copied b (replicate n 0) ≡ padded n b
+unfolding copied
+padded_is zero [] = refl
+padded_is zero (x ∷ b) = refl
+padded_is (suc n) [] = ap (λ (l : List ℕ). 0 ∷ l) (sym (padded_none n))
+padded_is (suc n) (x ∷ b) = ap (λ (l : List ℕ). x ∷ l) (padded_is n b)
+
+pub rest_is : (n k : ℕ) (b : List ℕ) → k ≡ min (length b) 16 → padded n (take (length b - k) (drop k b)) ≡ rest_at n b
 unfolding rest_at
-rest_some n b = ap (λ (l : List ℕ). copied l (replicate n 0)) (to_the_end b)
+rest_is n k b e =
+    let same : k ≡ min 16 (length b) = omega arith in
+    ap (padded n) (take_rest b k ∙ ap (λ (i : ℕ). drop i b) same ∙ drop_min 16 b) ∙ sym (padded_is n (drop 16 b))
 
 -- of bytes that are so many, all after the front
 rest_all : (n : ℕ) (b : List ℕ) → length b ≡ 16 + n → rest_at n b ≡ drop 16 b
@@ -139,23 +144,6 @@ rest_all n b e = copied_same (drop 16 b) (replicate n 0) (simp (length-drop, len
 rest_length : (n : ℕ) (b : List ℕ) → length (rest_at n b) ≡ n
 unfolding rest_at
 rest_length n b = copied_length (drop 16 b) (replicate n 0) ∙ length-replicate n 0
-
-copied_first : (a old : List ℕ) → length a ≤ length old → take (length a) (copied a old) ≡ a
-unfolding copied
-copied_first [] [] le = refl
-copied_first [] (o ∷ old) le = refl
-copied_first (x ∷ a) [] le = absurd (omega arith)
-copied_first (x ∷ a) (o ∷ old) le = ap (λ (l : List ℕ). x ∷ l) (copied_first a old (omega arith))
-
-pub put_both : (f rest old mid end : List ℕ) → length f ≡ 16 → length old ≡ 16 + length rest → mid ≡ copied f old
-    → end ≡ copied rest (take (length mid - 16) (drop 16 mid)) → take 16 mid ++ (end ++ drop (length mid - 16) (drop 16 mid)) ≡ f ++ rest
-put_both f rest old mid end long len first second =
-    let size : length mid ≡ 16 + length rest = ap length first ∙ copied_length f old ∙ len in
-    let head : take 16 mid ≡ f = ap (take 16) first ∙ rw long at (copied_first f old (rw long (omega arith))) in
-    let fits : length rest ≡ length (drop 16 mid) = sym (length-drop 16 mid ∙ omega arith) in
-    let tail : end ≡ rest = second ∙ ap (copied rest) (to_the_end mid) ∙ copied_same rest (drop 16 mid) fits in
-    let none : drop (length mid - 16) (drop 16 mid) ≡ [] = drop_of_length-le (drop 16 mid) {i = length mid - 16} (simp length-drop (omega arith)) in
-    simp (head, tail, none, append-nil)
 
 -- ---- the comparison
 

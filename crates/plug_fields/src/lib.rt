@@ -1,76 +1,42 @@
-// States as bytes, the kinds of fields: a byte, a 16-bit number, an enum by a number, zeros, an array; and the whole in a buffer.
+// States as bytes, the kinds of fields: a 16-bit number, an enum by a number, zeros, an array; and the whole in a buffer.
 #![tactic(auto)]
 
-ghost use Rattle.std.specs.Prelude.{◌≡◌, ◌&&◌, ◌++◌, ◌+◌, ◌-◌, ◌/◌, ◌%◌, ◌≤◌, length, replicate};
-ghost use Rattle.base_types.specs.Bits.{one};
-ghost use Rattle.base_types.specs.Outcome.{judged_outcome};
-ghost use Rattle.plug_fields.specs.Fields.{joined, same, rest_at, judged_by, buffer_outcome, buffer_after, value_of, is_refusal, mode_byte, mode_of};
+ghost use Rattle.std.specs.Prelude.{◌≡◌, ◌++◌, ◌+◌, ◌-◌, length, nat_lt, replicate};
+ghost use Rattle.std.specs.Bool.{then_some};
+ghost use Rattle.base_types.specs.Outcome.{outcome_of};
+ghost use Rattle.plug_fields.specs.Fields.{word, joined, padded, same, rest_at, buffer_outcome, buffer_after, refusal_bytes, mode_byte, mode_of};
 
-use base_types::refusal;
-use base_types::refusal::{Given, Judged, Refusal};
+use base_types::refusal::Refusal;
 use base_types::write_mode::WriteMode;
 use chip_memory::page;
 
 // ---- numbers
 
-pub fn low(x: u16) -> u8
-    ensures { result ≡ x % 256 }
+// The two bytes of a number, low byte first, in the words of the layouts.
+pub fn word(x: u16) -> [u8; 2]
+    ensures { result ≡ word x }
 {
-    (x % 256) as u8
+    x.to_le_bytes()
 }
 
-pub fn high(x: u16) -> u8
-    ensures { result ≡ x / 256 }
-{
-    (x / 256) as u8
-}
-
+// The number of two bytes.
 pub fn join(l: u8, h: u8) -> u16
     ensures { result ≡ joined l h }
 {
-    (l as u16) + 256 * (h as u16)
-}
-
-pub fn both(a: bool, b: bool) -> bool
-    ensures { result ≡ (a && b) }
-{
-    if a { b } else { false }
-}
-
-fn zeros_within(b: &[u8], from: usize, to: usize) -> bool
-    requires { to ≤ length b.now }
-    ensures { result ≡ same from (replicate (to - from) 0) b.now }
-{
-    let mut i = from;
-    while i < to {
-        if b[i] != 0 {
-            return false;
-        }
-        i += 1;
-    }
-    true
+    u16::from_le_bytes([l, h])
 }
 
 // The bytes from a place up to another are 0; those past the end count as 0.
 pub fn zeros(b: &[u8], from: usize, to: usize) -> bool
     ensures { result ≡ same from (replicate (to - from) 0) b.now }
 {
-    if to <= b.len() {
-        zeros_within(b, from, to)
-    } else {
-        zeros_within(b, from, b.len())
-    }
+    b.iter().take(to).skip(from).all(|x| *x == 0)
 }
 
-// ---- a flag, and the mode of a write
+// ---- the mode of a write: no From, which its own crate alone could have
 
-pub fn number_of_flag(flag: bool) -> u8
-    ensures { result ≡ one flag }
-{
-    if flag { 1 } else { 0 }
-}
-
-pub fn number_of_mode(mode: WriteMode) -> u8
+#[tactic(auto, unfolding(crate::specs::Fields::mode_byte))]
+pub fn mode_byte(mode: WriteMode) -> u8
     ensures { result ≡ mode_byte mode }
 {
     match mode {
@@ -79,89 +45,60 @@ pub fn number_of_mode(mode: WriteMode) -> u8
     }
 }
 
-pub fn mode_of(number: u8) -> WriteMode
-    ensures { result ≡ mode_of number }
+// The mode of a byte, if it is that of one.
+#[tactic(auto, unfolding(crate::specs::Fields::mode_of))]
+pub fn mode_of(number: u8) -> Option<WriteMode>
+    ensures { result ≡ then_some (nat_lt number 2) (mode_of number) }
 {
     match number {
-        0 => WriteMode::Ordinary,
-        _ => WriteMode::Quick,
+        0 => Some(WriteMode::Ordinary),
+        1 => Some(WriteMode::Quick),
+        _ => None,
     }
 }
 
-// ---- the array after the front
+// ---- arrays
 
-// The eight bytes after the front; those past the end count as 0.
-pub fn eight_of(bytes: &[u8]) -> [u8; 8]
-    ensures { result ≡ rest_at 8 bytes.now }
+// So many bytes: these, as far as they go, and zeros.
+#[tactic(auto, using(crate::proofs::Laws::padded_is))]
+pub fn padded<const N: usize>(bytes: &[u8]) -> [u8; N]
+    ensures { result ≡ padded N bytes.now }
 {
-    let mut rest = [0u8; 8];
-    if 16 < bytes.len() {
-        page::copy(&bytes[16..], &mut rest);
-    }
-    rest
+    let mut all = [0; N];
+    page::copy(bytes, &mut all);
+    all
 }
 
-// The 32 bytes after the front; those past the end count as 0.
-pub fn page_of(bytes: &[u8]) -> [u8; 32]
-    ensures { result ≡ rest_at 32 bytes.now }
+// The bytes after the front; those past the end count as 0.
+#[tactic(auto, using(crate::proofs::Laws::rest_is))]
+pub fn rest_of<const N: usize>(bytes: &[u8]) -> [u8; N]
+    ensures { result ≡ rest_at N bytes.now }
 {
-    let mut rest = [0u8; 32];
-    if 16 < bytes.len() {
-        page::copy(&bytes[16..], &mut rest);
-    }
-    rest
+    padded(&bytes[bytes.len().min(16)..])
 }
 
 // ---- the whole
 
-pub fn judge(good: bool) -> Judged
-    ensures { judged_outcome result ≡ judged_by good }
-{
-    if good {
-        Judged::Accepted
-    } else {
-        Judged::Refused(Refusal::StateRange)
-    }
-}
-
-fn fill(front: [u8; 16], rest: &[u8], bytes: &mut [u8])
-    requires { length bytes.old ≡ 16 + length rest.now }
-    ensures { bytes.new ≡ front ++ rest.now }
-{
-    page::copy(&front, bytes);
-    page::copy(rest, &mut bytes[16..]);
-}
-
 // A front and the rest into a buffer as long as both. Refused: 10.
-pub fn put(front: [u8; 16], rest: &[u8], bytes: &mut [u8]) -> Judged
-    ensures answer { judged_outcome result ≡ buffer_outcome (16 + length rest.now) bytes.old }
+#[tactic(auto, unfolding(crate::specs::Fields::buffer_outcome, crate::specs::Fields::buffer_after))]
+pub fn put(front: [u8; 16], rest: &[u8], bytes: &mut [u8]) -> Result<(), Refusal>
+    ensures answer { outcome_of result ≡ buffer_outcome (16 + length rest.now) bytes.old }
     ensures bytes { bytes.new ≡ buffer_after (16 + length rest.now) (front ++ rest.now) bytes.old }
 {
     if bytes.len() != 16 + rest.len() {
-        return Judged::Refused(Refusal::BufferLength);
+        return Err(Refusal::BufferLength);
     }
-    fill(front, rest, bytes);
-    Judged::Accepted
+    let (head, tail) = bytes.split_at_mut(16);
+    head.copy_from_slice(&front);
+    tail.copy_from_slice(rest);
+    Ok(())
 }
 
-// ---- a refusal: its number, and the value that it gives back
+// ---- a refusal: its number, and the value that it gives back, 0 where there is none
 
-// The value that a refusal gives back, 0 where there is none.
-pub fn value_of(refusal: Refusal) -> u8
-    ensures { result ≡ value_of refusal }
+#[tactic(auto, unfolding(crate::specs::Fields::value_of))]
+pub fn refusal_bytes(refusal: Refusal) -> [u8; 2]
+    ensures { result ≡ refusal_bytes refusal }
 {
-    match refusal::given_back(refusal) {
-        Given::Nothing => 0,
-        Given::One(v) => v,
-    }
-}
-
-// These are the bytes of a refusal.
-pub fn is_refusal(refusal: Refusal, number: u8, value: u8) -> bool
-    ensures { result ≡ is_refusal refusal number value }
-{
-    both(
-        number == refusal::number(refusal),
-        value == value_of(refusal),
-    )
+    [refusal.number(), refusal.value().unwrap_or(0)]
 }

@@ -1,24 +1,15 @@
 -- The walk, the free page and the page's copy draw the same of a page number that no byte holds and of 255.
 use Prim.Native.Nat.{ℕ}
-use mathlib.Core.Path.{◌≡◌, refl, sym, ◌∙◌}
-use mathlib.Core.Bool.{Bool, true, false}
+use mathlib.Core.Path.{◌≡◌, sym, ◌∙◌}
+use mathlib.Core.Bool.{false}
 use mathlib.Core.List.{List}
-use lib.Dec.{eqb}
-use lib.ListN.{length}
-use Rattle.base_types.specs.Outcome.{accepted, judge, done, unless_refused}
-use Rattle.chip_memory.specs.Layout.{is_image, is_page}
-use Rattle.chip_memory.specs.Image.{page_bytes}
+use native.Mathlib.Omega.{arith}
+use Rattle.chip_memory.specs.Layout.{is_page}
 use Rattle.chip_images.specs.Walk.{walk_answer}
 use Rattle.chip_images.specs.Free.{free_answer}
 use Rattle.chip_images.specs.Page.{copy_answer, copy_buffer}
 use Rattle.plug_answers.specs.Calls.{page_number}
 use Rattle.plug_answers.proofs.Pages.{same_at}
-
--- a refusal leaves the buffer
-kept : (a b : Bool) (new old : List ℕ) → unless_refused (judge a 1 (judge b 10 (judge false 3 (accepted done)))) new old ≡ old
-kept false b new old = refl
-kept true false new old = refl
-kept true true new old = refl
 
 module _ (img : List ℕ) where
   pub walk_same : (p : ℕ) → walk_answer 64 img (page_number p) ≡ walk_answer 64 img p
@@ -34,9 +25,10 @@ module _ (img : List ℕ) where
     unfolding copy_answer
     copy_same = same_at (λ p. copy_answer 64 img p buffer) (λ p q e f. simp (e, f))
 
+    -- a refusal leaves the buffer
     left : (p : ℕ) → is_page 64 p ≡ false → copy_buffer 64 img p buffer ≡ buffer
     unfolding copy_answer copy_buffer
-    left p e = simp e (kept (is_image 64 img) (eqb (length buffer) 32) (page_bytes img p) buffer)
+    left p e = grind (arith, e)
 
     pub copied_same : (p : ℕ) → copy_buffer 64 img (page_number p) buffer ≡ copy_buffer 64 img p buffer
     copied_same = same_at (λ p. copy_buffer 64 img p buffer) (λ p q e f. left p e ∙ sym (left q f))

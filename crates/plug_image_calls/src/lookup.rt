@@ -1,64 +1,53 @@
 // The variation at a latitude and a column, and the change from one value to another, once the buffers are judged.
-ghost use Rattle.std.specs.Prelude.{◌≡◌};
-ghost use Rattle.base_tenths.specs.Tenths.{tenths_outcome};
-ghost use Rattle.plug_answers.specs.Answers.{code_in, answered};
-ghost use Rattle.plug_image_calls.specs.Lookup.{tenths_values, variation_values, sheet_variation_values, change_values};
+ghost use Rattle.std.specs.Prelude.{◌≡◌, ◌/◌, ◌%◌, [], ◌∷◌};
+ghost use Rattle.base_tenths.specs.Tenths.{low_bits};
+ghost use Rattle.plug_answers.specs.Answers.{told_by};
+ghost use Rattle.plug_image_calls.specs.Lookup.{variation_values, sheet_variation_values, change_values};
 
-use base_tenths::Tenths;
-use base_types::address::Page;
-use chip_memory::layout;
-use plug_answers::answer;
+use crate::lent;
+use base_types::refusal::Refusal;
+use plug_answers::{answer, calls};
 
-// Tenths of a degree in sixteen bits, low byte first, or a refusal.
-fn tell_tenths(told: Tenths, answer: &mut [u8]) -> u32
-    ensures code { result ≡ code_in (tenths_values (tenths_outcome told)) }
-    ensures answer { answer.new ≡ answered (tenths_values (tenths_outcome told)) answer.old }
+// Tenths of a degree in sixteen bits, low byte first.
+fn bytes_of(tenths: i32) -> [u8; 2]
+    ensures { result ≡ low_bits tenths % 256 ∷ low_bits tenths / 256 % 256 ∷ [] }
 {
-    match told {
-        Tenths::Refused(r) => answer::refuse(r, answer),
-        Tenths::Outcome(v) => {
-            let bits = base_tenths::low_bits(v);
-            answer::tell_two((bits % 256) as u8, (bits / 256 % 256) as u8, answer);
-            0
-        }
-    }
+    base_tenths::low_bits(tenths).to_le_bytes()
 }
 
 // From an image.
-pub fn variation(image: &[u8], latitude: i32, column: u32, answer: &mut [u8]) -> u32
-    ensures code { result ≡ code_in (variation_values 64 image.now latitude column answer.old) }
-    ensures answer { answer.new ≡ answered (variation_values 64 image.now latitude column answer.old) answer.old }
+#[tactic(auto, using(std::proofs::lemmas::Int::ints), unfolding(crate::specs::Lookup::variation_values))]
+pub fn variation(
+    image: &[u8],
+    latitude: i32,
+    column: u32,
+    answer: &[u8],
+) -> Result<[u8; 2], Refusal>
+    ensures { told_by (λ bytes. bytes) result ≡ variation_values 64 image.now latitude column answer.now }
 {
-    if !layout::is_image(image, Page(layout::DS2505)) {
-        return 1;
-    }
-    if !answer::is_answer(answer) {
-        return 10;
-    }
-    tell_tenths(plug_lookup::variation::at(image, latitude, column), answer)
+    lent(image, answer::is_answer(answer))?;
+    plug_lookup::variation::at(image, latitude, column).map(bytes_of)
 }
 
 // From a stored sheet.
-pub fn sheet_variation(sheet: &[u8], latitude: i32, column: u32, answer: &mut [u8]) -> u32
-    ensures code { result ≡ code_in (sheet_variation_values 64 sheet.now latitude column answer.old) }
-    ensures answer { answer.new ≡ answered (sheet_variation_values 64 sheet.now latitude column answer.old) answer.old }
+#[tactic(auto, using(std::proofs::lemmas::Int::ints), unfolding(crate::specs::Lookup::sheet_variation_values))]
+pub fn sheet_variation(
+    sheet: &[u8],
+    latitude: i32,
+    column: u32,
+    answer: &[u8],
+) -> Result<[u8; 2], Refusal>
+    ensures { told_by (λ bytes. bytes) result ≡ sheet_variation_values 64 sheet.now latitude column answer.now }
 {
-    if !answer::is_answer(answer) {
-        return 10;
-    }
-    tell_tenths(
-        plug_sheet_lookup::variation(sheet, latitude, column),
-        answer,
-    )
+    calls::judge_answer(answer)?;
+    plug_sheet_lookup::variation(sheet, latitude, column).map(bytes_of)
 }
 
 // The change from an old value to a new one.
-pub fn change(old: i32, new: i32, answer: &mut [u8]) -> u32
-    ensures code { result ≡ code_in (change_values old new answer.old) }
-    ensures answer { answer.new ≡ answered (change_values old new answer.old) answer.old }
+#[tactic(auto, using(std::proofs::lemmas::Int::ints), unfolding(crate::specs::Lookup::change_values))]
+pub fn change(old: i32, new: i32, answer: &[u8]) -> Result<[u8; 2], Refusal>
+    ensures { told_by (λ bytes. bytes) result ≡ change_values old new answer.now }
 {
-    if !answer::is_answer(answer) {
-        return 10;
-    }
-    tell_tenths(base_tenths::change(old, new), answer)
+    calls::judge_answer(answer)?;
+    base_tenths::change(old, new).map(bytes_of)
 }

@@ -1,26 +1,34 @@
--- The search for a row, as a loop that goes up sees it.
-use Prim.Native.Nat.{ℕ, suc, ◌+◌, ◌-◌, ◌<◌, ◌≤◌}
-use mathlib.Core.Path.{◌≡◌, ap, ◌∙◌}
-use mathlib.Core.Bool.{true, false}
-use mathlib.Core.List.{List, []}
+-- Tests over a range of numbers, and the search for a row, as the chains of the code tell them.
+use Prim.Native.Nat.{ℕ, zero, suc, ◌+◌}
+use mathlib.Core.Path.{◌≡◌, refl, ap, ◌∙◌}
+use mathlib.Core.Bool.{Bool}
+use mathlib.Core.List.{List}
 use native.Mathlib.Omega.{arith}
 use lib.IntN.{ℤ}
-use Rattle.base_types.specs.Outcome.{accepted, refused}
+use Rattle.std.specs.List.{list_all, range_with_len, find}
+use Rattle.std.specs.Prelude.{Option, Some, None, option_map}
+use Rattle.std.specs.Option.{ok_or}
+use Rattle.base_types.specs.declared.refusal.Refusal.TheVariants.{Latitude}
+use Rattle.base_types.specs.Outcome.{outcome_of}
+use Rattle.base_types.specs.Scan.{every}
 use Rattle.plug_lookup.specs.Header.{covers, row_from}
 
--- one step of a loop over the rows below n
-module _ (header : List ℕ) (latitude : ℤ) (n i : ℕ) where
-  ahead : i < n → n - i ≡ suc (n - (i + 1))
-  ahead lt = omega arith
+-- a test of all the numbers of a range
+pub all_is_every : (t : ℕ → Bool) (k q : ℕ) → list_all t (range_with_len q k) ≡ every t k q
+unfolding every
+all_is_every t zero q = refl
+all_is_every t (suc k) q = simp (all_is_every t k (q + 1)) refl
 
-  pub row_found : i < n → covers header latitude i ≡ true → row_from header latitude (n - i) i ≡ accepted i
-  unfolding row_from
-  row_found lt e = ap (λ k. row_from header latitude k i) (ahead lt) ∙ simp e
+-- the first number of a range that covers the latitude
+pub first_is_row : (header : List ℕ) (latitude : ℤ) (k q : ℕ) (r : Option ℕ) → option_map (λ x. x) r ≡ find (covers header latitude) (range_with_len q k)
+    → outcome_of (ok_or r Latitude) ≡ row_from header latitude k q
+unfolding row_from
+first_is_row header latitude k q r e = ap (λ (o : Option ℕ). outcome_of (ok_or o Latitude)) (same r ∙ e) ∙ row k q
+  where
+    same : (o : Option ℕ) → o ≡ option_map (λ x. x) o
+    same None = refl
+    same (Some x) = refl
 
-  pub row_goes_on : i < n → covers header latitude i ≡ false → row_from header latitude (n - i) i ≡ row_from header latitude (n - (i + 1)) (i + 1)
-  unfolding row_from
-  row_goes_on lt e = ap (λ k. row_from header latitude k i) (ahead lt) ∙ simp e
-
-  pub row_over : n ≤ i → row_from header latitude (n - i) i ≡ refused 17 []
-  unfolding row_from
-  row_over le = let e : n - i ≡ 0 = omega arith in ap (λ k. row_from header latitude k i) e
+    row : (k q : ℕ) → outcome_of (ok_or (find (covers header latitude) (range_with_len q k)) Latitude) ≡ row_from header latitude k q
+    row zero q = refl
+    row (suc k) q = grind (arith, row k (q + 1))

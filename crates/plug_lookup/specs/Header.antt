@@ -1,11 +1,9 @@
 -- The header, which says which page holds the row of a latitude: the bytes of a page, over the page count n.
 use Rattle.std.specs.Prelude.{ℕ, zero, suc, ◌+◌, ◌-◌, ◌*◌, Bool, cond, ◌&&◌, List, [], eqb, ltb, leb, get_or, ℤ, pos, ◌+ℤ◌}
 use Rattle.std.specs.Int.Signed.{lt_z, le_z}
-use Rattle.base_types.specs.Outcome.{Outcome, refused, accepted, refusing, judge}
+use Rattle.base_types.specs.Outcome.{Outcome, refused, accepted, judge}
 use Rattle.base_types.specs.Scan.{every}
 use Rattle.base_tenths.specs.Tenths.{word_of, signed_of}
-use Rattle.plug_lookup.specs.declared.header.Row.{Row}
-use Rattle.plug_lookup.specs.declared.header.Row.TheVariants.{Refused, Number}
 
 -- the 16-bit number k of a page, low byte first
 unfoldable pub word_at : List ℕ → ℕ → ℕ
@@ -69,10 +67,6 @@ row_from header latitude zero i = refused 17 []
 row_from header latitude (suc k) i =
     let rest : Outcome ℕ = row_from header latitude k (i + 1) in
     cond (covers header latitude i) (accepted i) rest
-
-abbrev pub row_outcome : Row → Outcome ℕ
-row_outcome (Refused r) = refusing r
-row_outcome (Number i) = accepted i
 
 -- 16, 17, or the row
 unfoldable pub row_answer : ℕ → List ℕ → ℤ → Outcome ℕ

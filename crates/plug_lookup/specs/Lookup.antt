@@ -1,14 +1,12 @@
 -- The value of a latitude and a column, from what the chip's walk and page tell. n is the page count.
 use Rattle.std.specs.Prelude.{ℕ, List, [], ◌∷◌, ltb, ℤ}
-use Rattle.base_types.specs.Outcome.{Outcome, refused, accepted, judge, refusing}
+use Rattle.base_types.specs.Outcome.{Outcome, refused, accepted, judge}
 use Rattle.base_types.specs.declared.address.Page.{Page}
 use Rattle.base_types.specs.declared.verdict.Verdict.{Verdict}
 use Rattle.base_types.specs.declared.verdict.Verdict.TheVariants.{Final, Loop, Outside}
 use Rattle.chip_images.specs.Walk.{walk_answer}
 use Rattle.chip_images.specs.Page.{page_part}
 use Rattle.base_tenths.specs.Tenths.{signed_of, is_value}
-use Rattle.plug_lookup.specs.declared.end.End.{End}
-use Rattle.plug_lookup.specs.declared.end.End.TheVariants.{Refused, At}
 use Rattle.plug_lookup.specs.Header.{word_at, columns_of, row_page, row_answer}
 
 -- what follows from an answer that is not refused
@@ -23,10 +21,6 @@ abbrev pub final_outcome : Verdict → Outcome Page
 final_outcome (Final q hops) = accepted q
 final_outcome Loop = refused 4 []
 final_outcome (Outside x) = refused 5 (x ∷ [])
-
-abbrev pub end_outcome : End → Outcome Page
-end_outcome (Refused r) = refusing r
-end_outcome (At q) = accepted q
 
 -- where the chain of page p ends: 1, 3, 4, 5, or the final page
 unfoldable pub end_of : ℕ → List ℕ → ℕ → Outcome Page

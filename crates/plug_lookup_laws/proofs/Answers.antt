@@ -49,7 +49,7 @@ run_length n (e ∷ es) c = run_length n es (next n c e) ∙ either_length (draw
 -- a test that refuses where it fails has held
 passed : {A : Type 0} (b : Bool) (k : ℕ) (rest : Outcome A) (a : A) → judge b k rest ≡ accepted a → b ≡ true
 passed true k rest a e = refl
-passed false k rest a e = absurd (let z : ◌≡◌ {A = ℕ} 0 1 = cc in omega arith)
+passed false k rest a e = absurd cc
 
 first_blank : (bs : List ℕ) → is_blank bs ≡ true → 0 < length bs → get_or bs 0 0 ≡ 255
 unfolding is_blank

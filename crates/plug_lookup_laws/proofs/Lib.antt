@@ -1,4 +1,3 @@
 pub mod Answers
-pub mod Order
 pub mod Superseding
 pub mod Outcome

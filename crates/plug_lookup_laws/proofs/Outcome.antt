@@ -2,7 +2,7 @@
 use Prim.Native.Nat.{ℕ, zero, suc, ◌+◌, ◌<◌, ◌≤◌}
 use mathlib.Core.Bool.{Bool, true, false, cond, ◌&&◌}
 use mathlib.Core.Path.{◌≡◌, refl}
-use mathlib.Core.Logic.{◌↔◌, ◌⊎◌, inl, inr, ⊎_elim}
+use mathlib.Core.Logic.{◌↔◌, ◌⊎◌, inl, inr}
 use mathlib.Core.List.{List, []}
 use native.Mathlib.Omega.{arith}
 use native.Mathlib.Nat.{mul-le-mul_right}
@@ -10,32 +10,29 @@ use lib.Dec.{ltb}
 use lib.IntN.{ℤ}
 use lib.Signed.{◌<ℤ◌, ◌≤ℤ◌, <ℤ-≤ℤ_trans, clash_ℤ}
 use borrow.Author.Tests.{lt-ltb}
+use Rattle.std.proofs.lemmas.Int.{ints, by_lt_z}
 use Rattle.base_types.specs.Outcome.{Outcome, accepted, refused, judge}
 use Rattle.base_types.specs.declared.verdict.Verdict.{Verdict}
 use Rattle.base_types.specs.declared.verdict.Verdict.TheVariants.{Final, Loop, Outside}
 use Rattle.chip_memory.specs.Layout.{is_image, is_page}
-use Rattle.base_types.proofs.Scan.{both_true, both_intro, every_means}
+use Rattle.base_types.proofs.Scan.{both_true, every_means}
 use Rattle.chip_images.specs.Page.{page_part}
 use Rattle.chip_images.specs.Walk.{walk_answer}
 use Rattle.base_tenths.specs.Tenths.{is_value, signed_of}
-use Rattle.plug_lookup.specs.Header.{word_at, rows_of, columns_of, edge_of, height_of, row_page, fields_right, pages_right, rest_blank, is_header, lower_edge, covers, row_from, row_answer}
+use Rattle.plug_lookup.specs.Header.{word_at, rows_of, columns_of, height_of, row_page, fields_right, pages_right, rest_blank, is_header, lower_edge, covers, row_from, row_answer}
 use Rattle.plug_lookup.specs.Lookup.{and_then, final_outcome, end_of, column_value, page_value, row_value, header_value, lookup_answer}
 use Rattle.plug_lookup_laws.specs.Outcome.{RowLaws, AnswerLaws}
-use Rattle.plug_lookup_laws.proofs.Order.{le_means, lt_means, lt_or_le, sum_rises}
 
 -- ---- the row of a latitude
 
 module _ (header : List ℕ) (latitude : ℤ) where
   covering : (i : ℕ) → (covers header latitude i ≡ true) ↔ ((lower_edge header i ≤ℤ latitude) × (latitude <ℤ lower_edge header (i + 1)))
   unfolding covers
-  covering i = (
-    λ e. let w = both_true _ _ e in ((le_means _ _).0 w.0, (lt_means _ _).0 w.1),
-    λ h. both_intro _ _ ((le_means _ _).1 h.0) ((lt_means _ _).1 h.1),
-  )
+  covering i = (λ e. grind (arith, ints), λ h. grind (arith, ints))
 
   edges_rise : (i k : ℕ) → i ≤ k → lower_edge header i ≤ℤ lower_edge header k
   unfolding lower_edge
-  edges_rise i k h = sum_rises (edge_of header) _ _ (mul-le-mul_right (height_of header) h)
+  edges_rise i k h = omega (arith, ints, mul-le-mul_right (height_of header) h)
 
   -- where a row covers the latitude, it is below the lower edge of every row after it
   below_later : (i k : ℕ) → covers header latitude i ≡ true → i < k → latitude <ℤ lower_edge header k
@@ -54,10 +51,8 @@ module _ (header : List ℕ) (latitude : ℤ) where
 
   -- a latitude that has passed row i's lower edge, and that row i does not cover, has passed its upper edge
   pass : (i : ℕ) → covers header latitude i ≡ false → lower_edge header i ≤ℤ latitude → lower_edge header (i + 1) ≤ℤ latitude
-  pass i e low = ⊎_elim
-      (λ up. absurd (let c = (covering i).1 (low, up) in let z : ◌≡◌ {A = ℕ} 0 1 = cc in omega arith))
-      (λ past. past)
-      (lt_or_le latitude (lower_edge header (i + 1)))
+  unfolding covers
+  pass i e low = grind (arith, ints)
 
   step : (m i : ℕ) {rest : Outcome ℕ} (t : Bool) → covers header latitude i ≡ t → i < m → Searched m (i + 1) rest
       → Searched m i (cond t (accepted i) rest)
@@ -97,7 +92,7 @@ module _ (header : List ℕ) (latitude : ℤ) where
     told = λ i e. found_means (rw e at rows_searched);
     alone = alone;
     none = (
-      λ e. ⊎_elim inl (λ low. inr (missed_means (rw e at rows_searched) low)) (lt_or_le latitude (lower_edge header 0)),
+      λ e. by_lt_z latitude (lower_edge header 0) inl (λ low. inr (missed_means (rw e at rows_searched) low)),
       off_missed rows_searched,
     );
   }

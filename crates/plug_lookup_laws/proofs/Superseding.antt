@@ -21,10 +21,9 @@ use Rattle.base_types.specs.Verdict.{final}
 use Rattle.chip_chain.specs.Walk.{walk_of}
 use Rattle.chip_chain.proofs.Walks.{walk_final}
 use Rattle.chip_chain_laws.specs.Update.{PageReading, bytes_under, read_of, moved_by}
-use Rattle.master_publisher.specs.declared.Choice.{Choice}
-use Rattle.master_publisher.specs.declared.Choice.TheVariants.{Refused, Accepted}
+use Rattle.std.specs.Prelude.{Ok, Err}
 use Rattle.master_publisher.specs.declared.Publisher.{Publisher}
-use Rattle.master_publisher.specs.Start.{choice_of, choice_outcome, choice_state, ready, publisher_answer, publisher_state}
+use Rattle.master_publisher.specs.Start.{Choice, choice_of, choice_outcome, choice_state, ready, publisher_answer, publisher_state}
 use Rattle.chip_entries.specs.Run.{Chip}
 use Rattle.chip_session_laws.specs.Session.{Ready, Bytes}
 use Rattle.master_plan.specs.declared.kind.UpdateKind.{UpdateKind}
@@ -45,8 +44,8 @@ found n kind img new p a = go (choice_of n kind.placement img new p) refl a
   where
     go : (ch : Choice) → choice_of n kind.placement img new p ≡ ch → choice_outcome ch ≡ accepted []
         → Placed n img (choice_state n kind img new ch).superseded.0 (choice_state n kind img new ch).target.0
-    go (Accepted l t) e a = placed_means kind.placement n img l.0 t.0 (chosen_means l t n kind img new p e).found
-    go (Refused r) e a = absurd (let z : ◌≡◌ {A = ℕ} 0 1 = cc in omega arith)
+    go (Ok (l, t)) e a = placed_means kind.placement n img l.0 t.0 (chosen_means l t n kind img new p e).found
+    go (Err stop) e a = absurd cc
 
 -- ---- what a page reads as
 

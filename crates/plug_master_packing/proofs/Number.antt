@@ -1,21 +1,22 @@
 -- The number read's state and its bytes.
-use Prim.Native.Nat.{ℕ, zero, suc, ◌≤◌}
-use mathlib.Core.Path.{◌≡◌, refl, sym, ◌∙◌}
+use Prim.Native.Nat.{ℕ}
+use mathlib.Core.Path.{◌≡◌, refl}
 use mathlib.Core.Logic.{◌≢◌}
-use mathlib.Core.Bool.{◌&&◌}
+use mathlib.Core.Bool.{true, ◌&&◌}
 use mathlib.Core.List.{List, [], ◌++◌}
 use native.Mathlib.Omega.{arith}
-use lib.Dec.{ltb}
 use lib.ListN.{length, get_or, replicate}
-use borrow.Author.Tests.{le-ltb}
+use borrow.Author.Tests.{ne_eqb}
+use Rattle.std.specs.Bool.{then_some}
+use Rattle.std.proofs.Common.{None}
 use Rattle.master_number.specs.declared.Phase.{Phase}
 use Rattle.master_number.specs.declared.Phase.TheVariants.{Begin, Presence, Command, Receive, Closing, Done as Ended, Stopped}
 use Rattle.master_number.specs.declared.NumberStop.TheVariants.{NoPresence, Crc8, Family}
 use Rattle.master_number.specs.declared.NumberRead.{NumberRead}
-use Rattle.plug_fields.specs.Fields.{padded, same, rest_at, value_of}
+use Rattle.plug_fields.specs.Fields.{padded, same, rest_at, is_copy, value_of}
 use Rattle.plug_master_packing.specs.Number.{phase_bytes, number_stop_of, phase_of, number_at, number_none, number_bytes, number_read_of, is_number_state, NumberPacking}
-use Rattle.plug_master_packing.specs.Code.Number.{phase_own}
-use Rattle.plug_fields.proofs.Laws.{past, same_tag, same_not, Laws, laws}
+use Rattle.plug_master_packing.specs.Code.Number.{stop_own, phase_own}
+use Rattle.plug_fields.proofs.Laws.{same_tag, same_not, same_own, same_two, Laws, laws}
 
 phase_back : (p : Phase) (fields rest : List ℕ) → phase_of ((padded 8 (phase_bytes p) ++ fields) ++ rest) ≡ p
 unfolding phase_bytes phase_of number_stop_of value_of
@@ -29,23 +30,48 @@ phase_back (Stopped NoPresence) fields rest = refl
 phase_back (Stopped Crc8) fields rest = refl
 phase_back (Stopped Family) fields rest = refl
 
--- the phases that have a tag alone
-pub plain_own : (b : List ℕ) (t : ℕ) → get_or b 0 0 ≡ t → t ≢ 2 → t ≢ 3 → t ≢ 6
-    → same 0 (padded 8 (phase_bytes (phase_of b))) b ≡ (ltb t 6 && same 1 (replicate 7 0) b)
-unfolding phase_bytes phase_of
-plain_own b zero e x y z = rw (e, same_tag b 0 e)
-plain_own b (suc zero) e x y z = rw (e, same_tag b 0 e)
-plain_own b (suc (suc zero)) e x y z = absurd (x refl)
-plain_own b (suc (suc (suc zero))) e x y z = absurd (y refl)
-plain_own b (suc (suc (suc (suc zero)))) e x y z = rw (e, same_tag b 0 e)
-plain_own b (suc (suc (suc (suc (suc zero))))) e x y z = rw (e, same_tag b 0 e)
-plain_own b (suc (suc (suc (suc (suc (suc zero)))))) e x y z = absurd (z refl)
-plain_own b (suc (suc (suc (suc (suc (suc (suc n))))))) e x y z =
-    let t = suc (suc (suc (suc (suc (suc (suc n)))))) in
-    let le : 6 ≤ t = omega arith in
-    let none : t ≡ 0 → ⊥ = λ h. omega (arith, h) in
-    rw (e, past 1 t (omega arith), past 2 t (omega arith), past 3 t (omega arith), past 4 t (omega arith), past 5 t (omega arith))
-    (rw (past 6 t (omega arith), le-ltb _ _ le, same_not b 0 (λ h. none (sym e ∙ h))))
+-- ---- the phase, by its tag
+
+abbrev at : List ℕ → ℕ → ℕ
+at b i = get_or b i 0
+
+pub phase_0 : (b : List ℕ) → at b 0 ≡ 0 → then_some (phase_own b) (phase_of b) ≡ then_some (same 1 (replicate 7 0) b) Begin
+unfolding phase_own phase_bytes phase_of
+phase_0 b e = rw (e, same_tag b 0 e)
+
+pub phase_1 : (b : List ℕ) → at b 0 ≡ 1 → then_some (phase_own b) (phase_of b) ≡ then_some (same 1 (replicate 7 0) b) Presence
+unfolding phase_own phase_bytes phase_of
+phase_1 b e = rw (e, same_tag b 0 e)
+
+pub phase_2 : (b : List ℕ) → at b 0 ≡ 2 → then_some (phase_own b) (phase_of b) ≡ then_some (same 2 (replicate 6 0) b) (Command (at b 1))
+unfolding phase_own phase_bytes phase_of
+phase_2 b e = rw (e, same_tag b 0 e, same_own b 1)
+
+pub phase_3 : (b : List ℕ) → at b 0 ≡ 3 → then_some (phase_own b) (phase_of b)
+    ≡ then_some (same 4 (replicate 4 0) b) (Receive (at b 1) (at b 2) (at b 3))
+unfolding phase_own phase_bytes phase_of
+phase_3 b e = rw (e, same_tag b 0 e, same_own b 1, same_own b 2, same_own b 3)
+
+pub phase_4 : (b : List ℕ) → at b 0 ≡ 4 → then_some (phase_own b) (phase_of b) ≡ then_some (same 1 (replicate 7 0) b) Closing
+unfolding phase_own phase_bytes phase_of
+phase_4 b e = rw (e, same_tag b 0 e)
+
+pub phase_5 : (b : List ℕ) → at b 0 ≡ 5 → then_some (phase_own b) (phase_of b) ≡ then_some (same 1 (replicate 7 0) b) Ended
+unfolding phase_own phase_bytes phase_of
+phase_5 b e = rw (e, same_tag b 0 e)
+
+pub phase_6 : (b : List ℕ) → at b 0 ≡ 6 → then_some (phase_own b) (phase_of b)
+    ≡ then_some (stop_own (at b 1) (at b 2) && same 3 (replicate 5 0) b) (Stopped (number_stop_of (at b 1)))
+unfolding stop_own phase_own phase_bytes phase_of
+phase_6 b e = rw (e, same_tag b 0 e, same_two b 1)
+
+pub phase_none : (b : List ℕ) → at b 0 ≢ 0 → at b 0 ≢ 1 → at b 0 ≢ 2 → at b 0 ≢ 3 → at b 0 ≢ 4 → at b 0 ≢ 5 → at b 0 ≢ 6
+    → then_some (phase_own b) (phase_of b) ≡ None
+unfolding phase_own phase_bytes phase_of
+phase_none b d0 d1 d2 d3 d4 d5 d6 =
+    rw (ne_eqb _ _ d1, ne_eqb _ _ d2, ne_eqb _ _ d3, ne_eqb _ _ d4, ne_eqb _ _ d5, ne_eqb _ _ d6, same_not b 0 d0)
+
+pub ruleset phase_rows = (phase_0, phase_1, phase_2, phase_3, phase_4, phase_5, phase_6, phase_none)
 
 -- ---- states
 
@@ -56,14 +82,21 @@ number = laws _ _ _ _ _ _ _ (omega arith) (λ b. refl) refl back
     back : (s : NumberRead) → rest_at 8 (number_bytes s) ≡ s.bytes → number_at (number_bytes s) (phase_of (number_bytes s)) ≡ s
     back s rest = simp (phase_back s.phase (padded 8 []) s.bytes, rest)
 
-pub number_held : (b : List ℕ) → length b ≡ 24 → number_read_of b ≡ number_at b (phase_of b)
-unfolding number_read_of
-number_held b e = number.held b e
-
-pub number_judged_lem : (b : List ℕ) → length b ≡ 24 → is_number_state b ≡ (phase_own b && same 8 (replicate 8 0) b)
+pub number_read : (b : List ℕ) → length b ≡ 24
+    → then_some (is_number_state b) (number_read_of b) ≡ then_some (phase_own b && same 8 (replicate 8 0) b) (number_at b (phase_of b))
 unfolding is_number_state phase_own number_read_of number_bytes
-number_judged_lem b e = number.judged b e
+number_read b e = rw (number.judged b e, number.held b e)
+
+pub number_none_lem : (b : List ℕ) → length b ≢ 24 → then_some (is_number_state b) (number_read_of b) ≡ None
+unfolding is_number_state is_copy
+number_none_lem b d = rw (ne_eqb _ _ d)
 
 pub number_packing : NumberPacking
 unfolding number_bytes number_read_of is_number_state
 number_packing = number.inverse
+
+pub number_back : (s : NumberRead) → length s.bytes ≡ 8 → number_read_of (number_bytes s) ≡ s
+number_back s e = number_packing.state_back s e
+
+pub number_kept : (s : NumberRead) → length s.bytes ≡ 8 → is_number_state (number_bytes s) ≡ true
+number_kept s e = number_packing.state_kept s e

@@ -1,22 +1,23 @@
 -- The page read's state and its bytes.
-use Prim.Native.Nat.{ℕ, zero, suc, ◌≤◌}
-use mathlib.Core.Path.{◌≡◌, refl, sym, ◌∙◌}
+use Prim.Native.Nat.{ℕ, ◌<◌}
+use mathlib.Core.Path.{◌≡◌, refl}
 use mathlib.Core.Logic.{◌≢◌}
-use mathlib.Core.Bool.{◌&&◌}
+use mathlib.Core.Bool.{true, ◌&&◌}
 use mathlib.Core.List.{List, [], ◌∷◌, ◌++◌}
 use native.Mathlib.Omega.{arith}
-use lib.Dec.{ltb}
-use lib.ListN.{length, get_or, replicate}
-use borrow.Author.Tests.{le-ltb}
+use lib.ListN.{length, get_or, set, replicate}
+use borrow.Author.Tests.{ne_eqb}
+use Rattle.std.specs.Bool.{then_some}
+use Rattle.std.proofs.Common.{None}
 use Rattle.master_page.specs.declared.Part.TheVariants.{Redirection, RedirectionCrc, Data, DataCrc}
 use Rattle.master_page.specs.declared.Phase.{Phase}
 use Rattle.master_page.specs.declared.Phase.TheVariants.{Begin, Presence, Command, Receive, Closing, Done as Ended, Stopped}
 use Rattle.master_page.specs.declared.PageStop.TheVariants.{PageNumber, Loop, Outside, Crc16, NoPresence}
 use Rattle.master_page.specs.declared.PageRead.{PageRead}
-use Rattle.plug_fields.specs.Fields.{padded, same, rest_at, value_of}
+use Rattle.plug_fields.specs.Fields.{joined, padded, front, same, rest_at, is_copy, value_of}
 use Rattle.plug_master_packing.specs.Page.{part_bytes, part_of, phase_bytes, page_stop_of, phase_of, page_at, page_none, page_read_bytes, page_read_of, is_page_state, PagePacking}
-use Rattle.plug_master_packing.specs.Code.Page.{phase_own}
-use Rattle.plug_fields.proofs.Laws.{past, field, same_tag, same_not, same_own, halves, Laws, laws}
+use Rattle.plug_master_packing.specs.Code.Page.{part_own, stop_own, phase_own}
+use Rattle.plug_fields.proofs.Laws.{stored, field, same_tag, same_not, same_own, same_two, low_joined, high_joined, halves, Laws, laws}
 
 phase_back : (p : Phase) (fields rest : List ℕ) → phase_of ((padded 8 (phase_bytes p) ++ fields) ++ rest) ≡ p
 unfolding phase_bytes phase_of part_bytes part_of page_stop_of value_of
@@ -35,34 +36,72 @@ phase_back (Stopped (Outside x)) fields rest = refl
 phase_back (Stopped Crc16) fields rest = refl
 phase_back (Stopped NoPresence) fields rest = refl
 
--- the parts that have a byte
-pub part_own_lem : (b : List ℕ) (t : ℕ) → get_or b 4 0 ≡ t → t ≢ 0 → t ≢ 3 → same 4 (padded 4 (part_bytes (part_of b))) b ≡ (ltb t 3 && same 6 (replicate 2 0) b)
-unfolding part_bytes part_of
-part_own_lem b zero e x y = absurd (x refl)
-part_own_lem b (suc zero) e x y = rw (e, same_tag b 4 e, same_own b 5)
-part_own_lem b (suc (suc zero)) e x y = rw (e, same_tag b 4 e, same_own b 5)
-part_own_lem b (suc (suc (suc n))) e x y =
-    let t = suc (suc (suc n)) in
-    let le : 3 ≤ t = omega arith in
-    rw (e, past 0 t (omega arith), past 1 t (omega arith), past 2 t (omega arith), le-ltb _ _ le, same_not b 4 (λ h. y (sym e ∙ h)))
+-- ---- what stands at a place, by its tag
 
--- the phases that have a tag alone
-pub plain_own : (b : List ℕ) (t : ℕ) → get_or b 0 0 ≡ t → t ≢ 2 → t ≢ 3 → t ≢ 6
-    → same 0 (padded 8 (phase_bytes (phase_of b))) b ≡ (ltb t 6 && same 1 (replicate 7 0) b)
-unfolding phase_bytes phase_of
-plain_own b zero e x y z = rw (e, same_tag b 0 e)
-plain_own b (suc zero) e x y z = rw (e, same_tag b 0 e)
-plain_own b (suc (suc zero)) e x y z = absurd (x refl)
-plain_own b (suc (suc (suc zero))) e x y z = absurd (y refl)
-plain_own b (suc (suc (suc (suc zero)))) e x y z = rw (e, same_tag b 0 e)
-plain_own b (suc (suc (suc (suc (suc zero))))) e x y z = rw (e, same_tag b 0 e)
-plain_own b (suc (suc (suc (suc (suc (suc zero)))))) e x y z = absurd (z refl)
-plain_own b (suc (suc (suc (suc (suc (suc (suc n))))))) e x y z =
-    let t = suc (suc (suc (suc (suc (suc (suc n)))))) in
-    let le : 6 ≤ t = omega arith in
-    let none : t ≡ 0 → ⊥ = λ h. omega (arith, h) in
-    rw (e, past 1 t (omega arith), past 2 t (omega arith), past 3 t (omega arith), past 4 t (omega arith), past 5 t (omega arith))
-    (rw (past 6 t (omega arith), le-ltb _ _ le, same_not b 0 (λ h. none (sym e ∙ h))))
+abbrev at : List ℕ → ℕ → ℕ
+at b i = get_or b i 0
+
+pub part_0 : (b : List ℕ) → at b 4 ≡ 0 → then_some (part_own b) (part_of b) ≡ then_some (same 5 (replicate 3 0) b) Redirection
+unfolding part_own part_bytes part_of
+part_0 b e = rw (e, same_tag b 4 e)
+
+pub part_1 : (b : List ℕ) → at b 4 ≡ 1 → then_some (part_own b) (part_of b)
+    ≡ then_some (same 6 (replicate 2 0) b) (RedirectionCrc (record { 0 = at b 5 }))
+unfolding part_own part_bytes part_of
+part_1 b e = rw (e, same_tag b 4 e, same_own b 5)
+
+pub part_2 : (b : List ℕ) → at b 4 ≡ 2 → then_some (part_own b) (part_of b) ≡ then_some (same 6 (replicate 2 0) b) (Data (at b 5))
+unfolding part_own part_bytes part_of
+part_2 b e = rw (e, same_tag b 4 e, same_own b 5)
+
+pub part_3 : (b : List ℕ) → at b 4 ≡ 3 → then_some (part_own b) (part_of b) ≡ then_some (same 5 (replicate 3 0) b) DataCrc
+unfolding part_own part_bytes part_of
+part_3 b e = rw (e, same_tag b 4 e)
+
+pub part_none : (b : List ℕ) → at b 4 ≢ 0 → at b 4 ≢ 1 → at b 4 ≢ 2 → at b 4 ≢ 3 → then_some (part_own b) (part_of b) ≡ None
+unfolding part_own part_bytes part_of
+part_none b d0 d1 d2 d3 =
+    rw (ne_eqb _ _ d0, ne_eqb _ _ d1, ne_eqb _ _ d2, same_not b 4 d3)
+
+pub ruleset part_rows = (part_0, part_1, part_2, part_3, part_none)
+
+pub phase_0 : (b : List ℕ) → at b 0 ≡ 0 → then_some (phase_own b) (phase_of b) ≡ then_some (same 1 (replicate 7 0) b) Begin
+unfolding phase_own phase_bytes phase_of
+phase_0 b e = rw (e, same_tag b 0 e)
+
+pub phase_1 : (b : List ℕ) → at b 0 ≡ 1 → then_some (phase_own b) (phase_of b) ≡ then_some (same 1 (replicate 7 0) b) Presence
+unfolding phase_own phase_bytes phase_of
+phase_1 b e = rw (e, same_tag b 0 e)
+
+pub phase_2 : (b : List ℕ) → at b 0 ≡ 2 → then_some (phase_own b) (phase_of b) ≡ then_some (same 2 (replicate 6 0) b) (Command (at b 1))
+unfolding phase_own phase_bytes phase_of
+phase_2 b e = rw (e, same_tag b 0 e, same_own b 1)
+
+pub phase_3 : (b : List ℕ) → at b 0 ≡ 3 → at b 2 < 256 → then_some (phase_own b) (phase_of b)
+    ≡ then_some (part_own b) (Receive (part_of b) (at b 1) (joined (at b 2) (at b 3)))
+unfolding part_own phase_own phase_bytes phase_of
+phase_3 b e h2 = rw (e, same_tag b 0 e, same_own b 1, low_joined, same_own b 2, high_joined, same_own b 3)
+
+pub phase_4 : (b : List ℕ) → at b 0 ≡ 4 → then_some (phase_own b) (phase_of b) ≡ then_some (same 1 (replicate 7 0) b) Closing
+unfolding phase_own phase_bytes phase_of
+phase_4 b e = rw (e, same_tag b 0 e)
+
+pub phase_5 : (b : List ℕ) → at b 0 ≡ 5 → then_some (phase_own b) (phase_of b) ≡ then_some (same 1 (replicate 7 0) b) Ended
+unfolding phase_own phase_bytes phase_of
+phase_5 b e = rw (e, same_tag b 0 e)
+
+pub phase_6 : (b : List ℕ) → at b 0 ≡ 6 → then_some (phase_own b) (phase_of b)
+    ≡ then_some (stop_own (at b 1) (at b 2) && same 3 (replicate 5 0) b) (Stopped (page_stop_of (at b 1) (at b 2)))
+unfolding stop_own phase_own phase_bytes phase_of
+phase_6 b e = rw (e, same_tag b 0 e, same_two b 1)
+
+pub phase_none : (b : List ℕ) → at b 0 ≢ 0 → at b 0 ≢ 1 → at b 0 ≢ 2 → at b 0 ≢ 3 → at b 0 ≢ 4 → at b 0 ≢ 5 → at b 0 ≢ 6
+    → then_some (phase_own b) (phase_of b) ≡ None
+unfolding phase_own phase_bytes phase_of
+phase_none b d0 d1 d2 d3 d4 d5 d6 =
+    rw (ne_eqb _ _ d1, ne_eqb _ _ d2, ne_eqb _ _ d3, ne_eqb _ _ d4, ne_eqb _ _ d5, ne_eqb _ _ d6, same_not b 0 d0)
+
+pub ruleset phase_rows = (phase_0, phase_1, phase_2, phase_3, phase_4, phase_5, phase_6, phase_none)
 
 -- ---- states
 
@@ -75,14 +114,25 @@ page = laws _ _ _ _ _ _ _ (omega arith) (λ b. refl) refl back
         let enum = phase_bytes s.phase in
         simp (phase_back s.phase, field 8 0 enum, field 8 1 enum, rest)
 
-pub page_held_lem : (b : List ℕ) → length b ≡ 48 → page_read_of b ≡ page_at b (phase_of b)
-unfolding page_read_of
-page_held_lem b e = page.held b e
-
-pub page_judged_lem : (b : List ℕ) → length b ≡ 48 → is_page_state b ≡ (phase_own b && same 10 (replicate 6 0) b)
+pub page_read : (b : List ℕ) → length b ≡ 48
+    → then_some (is_page_state b) (page_read_of b) ≡ then_some (phase_own b && same 10 (replicate 6 0) b) (page_at b (phase_of b))
 unfolding is_page_state phase_own page_read_of page_read_bytes
-page_judged_lem b e = page.judged b e ∙ rw (same_own b 8, same_own b 9)
+page_read b e = rw (page.judged b e, page.held b e, same_own b 8, same_own b 9)
+
+pub page_none_lem : (b : List ℕ) → length b ≢ 48 → then_some (is_page_state b) (page_read_of b) ≡ None
+unfolding is_page_state is_copy
+page_none_lem b d = rw (ne_eqb _ _ d)
 
 pub page_packing : PagePacking
 unfolding page_read_bytes page_read_of is_page_state
 page_packing = page.inverse
+
+pub page_back : (s : PageRead) → length s.bytes ≡ 32 → page_read_of (page_read_bytes s) ≡ s
+page_back s e = page_packing.state_back s e
+
+pub page_kept : (s : PageRead) → length s.bytes ≡ 32 → is_page_state (page_read_bytes s) ≡ true
+page_kept s e = page_packing.state_kept s e
+
+-- the fields after the phase
+pub page_stored : (p : Phase) (x y : ℕ) → set (set (front 8 (phase_bytes p) []) 8 x) 9 y ≡ front 8 (phase_bytes p) (x ∷ y ∷ [])
+page_stored p x y = rw (stored 8 0 x (phase_bytes p), stored 8 1 y (phase_bytes p))

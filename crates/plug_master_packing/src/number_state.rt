@@ -1,135 +1,92 @@
 // The number read's state as 24 bytes: specs/Number.antt has the layout.
-ghost use Rattle.std.specs.Prelude.{◌≡◌, true, [], length};
-ghost use Rattle.base_types.specs.Outcome.{judged_outcome};
-ghost use Rattle.master_number.specs.Number.{number_stop};
-ghost use Rattle.plug_fields.specs.Fields.{front, is_refusal};
-ghost use Rattle.plug_master_packing.specs.Number.{phase_bytes, number_stop_of, phase_of, number_at, number_none, number_bytes, number_read_of, is_number_state, number_judged};
+ghost use Rattle.std.specs.Prelude.{◌≡◌, true, []};
+ghost use Rattle.std.specs.Bool.{then_some};
+ghost use Rattle.base_types.specs.Outcome.{outcome_of};
+ghost use Rattle.plug_fields.specs.Fields.{front};
+ghost use Rattle.plug_master_packing.specs.Number.{phase_bytes, number_stop_of, phase_of, number_bytes, number_read_of, is_number_state, number_unpacked};
 ghost use Rattle.plug_master_packing.specs.Number.{number_packed, number_buffer};
-ghost use Rattle.plug_master_packing.specs.Code.Number.{phase_own};
+ghost use Rattle.plug_master_packing.specs.Code.Number.{stop_own, phase_own};
 
-use base_types::refusal;
-use base_types::refusal::{Judged, Refusal};
+use base_types::refusal::Refusal;
 use master_number::{NumberRead, NumberStop, Phase};
+use plug_fields::{padded, zeros};
 
-// The state that bytes hold, with 2 where they hold none.
-#[derive(Clone, Copy)]
-pub struct Unpacked {
-    pub judged: Judged,
-    pub state: NumberRead,
-}
-
+#[tactic(auto, unfolding(crate::specs::Number::phase_bytes))]
 fn front_of(phase: Phase) -> [u8; 16]
     ensures { result ≡ front 8 (phase_bytes phase) [] }
 {
     match phase {
-        Phase::Begin => [0, 0, 0, 0, 0, 0, 0, 0, 0, 0, 0, 0, 0, 0, 0, 0],
-        Phase::Presence => [1, 0, 0, 0, 0, 0, 0, 0, 0, 0, 0, 0, 0, 0, 0, 0],
-        Phase::Command(i) => [2, i, 0, 0, 0, 0, 0, 0, 0, 0, 0, 0, 0, 0, 0, 0],
-        Phase::Receive(k, left, x) => [3, k, left, x, 0, 0, 0, 0, 0, 0, 0, 0, 0, 0, 0, 0],
-        Phase::Closing => [4, 0, 0, 0, 0, 0, 0, 0, 0, 0, 0, 0, 0, 0, 0, 0],
-        Phase::Done => [5, 0, 0, 0, 0, 0, 0, 0, 0, 0, 0, 0, 0, 0, 0, 0],
+        Phase::Begin => [0; 16],
+        Phase::Presence => padded(&[1]),
+        Phase::Command(i) => padded(&[2, i]),
+        Phase::Receive(k, left, x) => padded(&[3, k, left, x]),
+        Phase::Closing => padded(&[4]),
+        Phase::Done => padded(&[5]),
         Phase::Stopped(cause) => {
-            let r = master_number::refusal_for(cause);
-            let n = refusal::number(r);
-            let v = plug_fields::value_of(r);
-            [6, n, v, 0, 0, 0, 0, 0, 0, 0, 0, 0, 0, 0, 0, 0]
+            let [number, value] = plug_fields::refusal_bytes(Refusal::from(cause));
+            padded(&[6, number, value])
         }
     }
 }
 
-// What stopped a read, by the number told; another number counts as 13.
-fn stop_of(number: u8) -> NumberStop
-    ensures { result ≡ number_stop_of number }
+// What stopped a read, if it is told by this number and value.
+#[tactic(auto, unfolding(crate::specs::Code::Number::stop_own, crate::specs::Number::number_stop_of, plug_fields::specs::Fields::value_of))]
+fn stop_of(number: u8, value: u8) -> Option<NumberStop>
+    ensures { result ≡ then_some (stop_own number value) (number_stop_of number) }
 {
-    match number {
-        14 => NumberStop::Crc8,
-        15 => NumberStop::Family,
-        _ => NumberStop::NoPresence,
+    match (number, value) {
+        (13, 0) => Some(NumberStop::NoPresence),
+        (14, 0) => Some(NumberStop::Crc8),
+        (15, 0) => Some(NumberStop::Family),
+        _ => None,
     }
 }
 
-fn phase_of(b: &[u8]) -> Phase
-    requires { length b.now ≡ 24 }
-    ensures { result ≡ phase_of b.now }
-{
-    let x = b[1];
-    match b[0] {
-        1 => Phase::Presence,
-        2 => Phase::Command(x),
-        3 => Phase::Receive(x, b[2], b[3]),
-        4 => Phase::Closing,
-        5 => Phase::Done,
-        6 => Phase::Stopped(stop_of(x)),
-        _ => Phase::Begin,
-    }
-}
-
-fn stop_own(number: u8, value: u8) -> bool
-    ensures { result ≡ is_refusal (number_stop (number_stop_of number)) number value }
-{
-    plug_fields::is_refusal(master_number::refusal_for(stop_of(number)), number, value)
-}
-
-fn phase_own(b: &[u8]) -> bool
-    requires { length b.now ≡ 24 }
-    ensures { result ≡ phase_own b.now }
+// The phase, if its eight bytes are its own.
+#[tactic(auto, using(crate::proofs::Number::phase_rows))]
+fn phase_of(b: &[u8; 24]) -> Option<Phase>
+    ensures { result ≡ then_some (phase_own b.now) (phase_of b.now) }
 {
     match b[0] {
-        2 => plug_fields::zeros(b, 2, 8),
-        3 => plug_fields::zeros(b, 4, 8),
-        6 => plug_fields::both(stop_own(b[1], b[2]), plug_fields::zeros(b, 3, 8)),
-        tag => plug_fields::both(tag < 6, plug_fields::zeros(b, 1, 8)),
+        0 => zeros(b, 1, 8).then_some(Phase::Begin),
+        1 => zeros(b, 1, 8).then_some(Phase::Presence),
+        2 => zeros(b, 2, 8).then_some(Phase::Command(b[1])),
+        3 => zeros(b, 4, 8).then_some(Phase::Receive(b[1], b[2], b[3])),
+        4 => zeros(b, 1, 8).then_some(Phase::Closing),
+        5 => zeros(b, 1, 8).then_some(Phase::Done),
+        6 => zeros(b, 3, 8).then_some(Phase::Stopped(stop_of(b[1], b[2])?)),
+        _ => None,
     }
 }
 
 // ---- the entries
 
-fn state_at(b: &[u8]) -> NumberRead
-    requires { length b.now ≡ 24 }
-    ensures { result ≡ number_at b.now (phase_of b.now) }
+#[tactic(auto, using(crate::proofs::Number::number_read, crate::proofs::Number::number_none_lem))]
+fn state_of(bytes: &[u8]) -> Option<NumberRead>
+    ensures { result ≡ then_some (is_number_state bytes.now) (number_read_of bytes.now) }
 {
-    NumberRead {
-        phase: phase_of(b),
-        bytes: plug_fields::eight_of(b),
-    }
-}
-
-fn none() -> NumberRead
-    ensures { result ≡ number_none }
-{
-    NumberRead {
-        phase: Phase::Begin,
-        bytes: [0; 8],
-    }
+    let b = <&[u8; 24]>::try_from(bytes).ok()?;
+    let phase = phase_of(b)?;
+    let bytes = plug_fields::rest_of(b);
+    zeros(b, 8, 16).then_some(NumberRead { phase, bytes })
 }
 
 // The state of 24 bytes. Refused: 2 for bytes of another length and for bytes that are those of no state. A state out of its ranges
 // is no matter here: the number read refuses it.
-pub fn unpack(bytes: &[u8]) -> Unpacked
-    ensures judged { judged_outcome result.judged ≡ number_judged bytes.now }
-    ensures state { result.state ≡ number_read_of bytes.now }
+#[tactic(auto, unfolding(crate::specs::Number::number_unpacked))]
+pub fn unpack(bytes: &[u8]) -> Result<NumberRead, Refusal>
+    ensures { outcome_of result ≡ number_unpacked bytes.now }
 {
-    if bytes.len() != 24 {
-        return Unpacked {
-            judged: Judged::Refused(Refusal::StateRange),
-            state: none(),
-        };
-    }
-    let own = phase_own(bytes);
-    Unpacked {
-        judged: plug_fields::judge(plug_fields::both(own, plug_fields::zeros(bytes, 8, 16))),
-        state: state_at(bytes),
-    }
+    state_of(bytes).ok_or(Refusal::StateRange)
 }
 
 // A state into a buffer of 24 bytes. Refused: 10. What is left there holds that state and is accepted by unpack.
-pub fn pack(state: NumberRead, bytes: &mut [u8]) -> Judged
-    ensures answer { judged_outcome result ≡ number_packed bytes.old }
+#[tactic(auto, using(crate::proofs::Number::number_back, crate::proofs::Number::number_kept), unfolding(crate::specs::Number::number_packed, crate::specs::Number::number_buffer, crate::specs::Number::number_bytes))]
+pub fn pack(state: NumberRead, bytes: &mut [u8]) -> Result<(), Refusal>
+    ensures answer { outcome_of result ≡ number_packed bytes.old }
     ensures bytes { bytes.new ≡ number_buffer state bytes.old }
     ensures back { number_read_of (number_bytes state) ≡ state }
     ensures kept { is_number_state (number_bytes state) ≡ true }
 {
-    let phase = state.phase;
-    let array = state.bytes;
-    plug_fields::put(front_of(phase), &array, bytes)
+    plug_fields::put(front_of(state.phase), &state.bytes, bytes)
 }

@@ -1,45 +1,30 @@
--- What the test of a sheet means, one byte at a time and as a whole; the way there and back.
-use Prim.Native.Nat.{ℕ, ◌+◌, ◌-◌, ◌≤◌, ◌<◌}
+-- What the test of a sheet means; the way there and back.
+use Prim.Native.Nat.{ℕ, zero, suc, ◌+◌, ◌-◌, ◌≤◌}
 use mathlib.Core.Path.{◌≡◌, refl, sym, ap, ◌∙◌}
-use mathlib.Core.Bool.{Bool, true, false, ◌||◌}
-use mathlib.Core.List.{List, [], ◌∷◌, ◌++◌, append_assoc}
-use native.Mathlib.Numerals.{add-one}
+use mathlib.Core.Bool.{Bool, true, false}
+use mathlib.Core.List.{List, [], ◌∷◌, ◌++◌, append_assoc, append-nil}
 use native.Mathlib.Omega.{arith}
 use lib.Dec.{eqb}
-use lib.ListN.{length, get_or, take, drop, length-append, length-take, length-drop, take-append-drop, drop_of_length-le}
-use lib.Seq.{drop-cons, drop-drop, take_all, take_at, drop_at}
-use borrow.Author.Tests.{eqb-true, eq-eqb, ne_eqb}
-use Rattle.base_types.specs.declared.refusal.Refusal.{Refusal}
-use Rattle.base_types.specs.declared.refusal.Judged.{Judged}
-use Rattle.base_types.specs.declared.refusal.Judged.TheVariants.{Refused, Accepted}
-use Rattle.base_types.specs.Outcome.{refused, accepted, done, refusing, judge, judged_outcome}
-use Rattle.chip_memory.specs.Layout.{image_size, is_image, status_index, is_held}
-use Rattle.chip_memory.specs.Page.{copied}
-use Rattle.chip_memory.proofs.Pages.{copied_same}
+use lib.ListN.{length, take, drop, length-append, length-take, length-drop, take-append-drop, drop_of_length-le}
+use lib.Pointwise.{pointwise}
+use lib.Seq.{drop-drop, take_all, take_at, drop_at}
+use borrow.Author.Tests.{eqb-true, eq-eqb}
+use Rattle.std.specs.List.{list_all, range_with_len}
+use Rattle.base_types.specs.Scan.{every}
+use Rattle.base_types.specs.Outcome.{accepted, Done, done, judge}
+use Rattle.chip_memory.specs.Layout.{image_size, is_image}
 use Rattle.chip_memory.proofs.Sizes.{image_length}
 use Rattle.base_types.proofs.Scan.{both_true, both_intro}
-use Rattle.plug_sheet.specs.Text.{put_at}
-use Rattle.plug_sheet.proofs.Puts.{put_first, put_next, put_back}
 use Rattle.plug_sheet.specs.Stored.{header_of, sheet_size, starts_with, gaps_blank, is_sheet, sheet_answer, number_part, image_part, sheet_of, SheetLaws}
 
--- ---- the front, one byte at a time
+-- ---- the front
 
-module _ (f s : List ℕ) (i : ℕ) where
-  pub starts_next : i < length f → i < length s → get_or s i 0 ≡ get_or f i 0 → starts_with (drop (i + 1) f) (drop (i + 1) s) ≡ starts_with (drop i f) (drop i s)
-  unfolding starts_with
-  starts_next lf ls e = rw (add-one, drop-cons f i 0, drop-cons s i 0, eq-eqb _ _ e)
-
-  pub starts_not : i < length f → i < length s → (get_or s i 0 ≡ get_or f i 0 → ⊥) → false ≡ starts_with (drop i f) (drop i s)
-  unfolding starts_with
-  starts_not lf ls d = rw (drop-cons f i 0, drop-cons s i 0, ne_eqb _ _ d)
-
-  pub starts_short : i < length f → length s ≤ i → false ≡ starts_with (drop i f) (drop i s)
-  unfolding starts_with
-  starts_short lf ls = rw (drop-cons f i 0, drop_of_length-le s ls)
-
-  pub starts_end : length f ≤ i → true ≡ starts_with (drop i f) (drop i s)
-  unfolding starts_with
-  starts_end lf = rw (drop_of_length-le f lf)
+-- what the library's test of the front tells
+pub front_is : (f s : List ℕ) → pointwise eqb f (take (length f) s) ≡ starts_with f s
+unfolding starts_with
+front_is [] s = refl
+front_is (b ∷ f) [] = refl
+front_is (b ∷ f) (x ∷ s) = grind (arith, front_is f s)
 
 starts_means : (f s : List ℕ) → starts_with f s ≡ true → f ++ drop (length f) s ≡ s
 unfolding starts_with
@@ -54,9 +39,11 @@ unfolding starts_with
 starts_self [] t = refl
 starts_self (b ∷ f) t = both_intro (eqb b b) (starts_with f (f ++ t)) (eq-eqb b b refl) (starts_self f t)
 
--- the status address a is no gap, or holds FFh
-abbrev pub gap_ok : ℕ → List ℕ → ℕ → Bool
-gap_ok n img a = is_held n a || eqb (get_or img (status_index n a) 0) 0xFF
+-- what the library's test of a range tells
+pub all_is_every : (t : ℕ → Bool) (k q : ℕ) → list_all t (range_with_len q k) ≡ every t k q
+unfolding every
+all_is_every t zero q = refl
+all_is_every t (suc k) q = simp (all_is_every t k (q + 1)) refl
 
 -- ---- the whole test
 
@@ -84,24 +71,14 @@ means_sheet : (n : ℕ) (s : List ℕ) → Sheet n s → is_sheet n s ≡ true
 unfolding is_sheet
 means_sheet n s w = simp (eq-eqb _ _ w.size, w.front) w.gaps
 
--- ---- what judge told
-
-pub accepted_sheet : (n : ℕ) (s : List ℕ) (j : Judged) → j ≡ Accepted → judged_outcome j ≡ sheet_answer n s → is_sheet n s ≡ true
+-- judge accepted it
+pub accepted_sheet : (n : ℕ) (s : List ℕ) (u : Done) → accepted u ≡ sheet_answer n s → is_sheet n s ≡ true
 unfolding sheet_answer
-accepted_sheet n s j told e = go (is_sheet n s) (sym (ap judged_outcome told) ∙ e)
+accepted_sheet n s u e = go (is_sheet n s) e
   where
-    go : (b : Bool) → judged_outcome Accepted ≡ judge b 12 (accepted done) → b ≡ true
+    go : (b : Bool) → accepted u ≡ judge b 12 (accepted done) → b ≡ true
     go true h = refl
-    go false h = absurd (let z : ◌≡◌ {A = ℕ} 0 1 = cc in omega arith)
-
-pub refused_sheet : (n : ℕ) (s : List ℕ) (j : Judged) (r : Refusal) → j ≡ Refused r → judged_outcome j ≡ sheet_answer n s
-    → (is_sheet n s ≡ false) × (refusing {A = ℕ} r ≡ refused 12 [])
-unfolding sheet_answer
-refused_sheet n s j r told e = go (is_sheet n s) (sym (ap judged_outcome told) ∙ e)
-  where
-    go : (b : Bool) → refusing r ≡ judge b 12 (accepted done) → (b ≡ false) × (refusing {A = ℕ} r ≡ refused 12 [])
-    go true h = absurd (let z : ◌≡◌ {A = ℕ} 0 1 = cc in omega arith)
-    go false h = (refl, cc)
+    go false h = absurd cc
 
 -- ---- the parts of a sheet
 
@@ -153,25 +130,18 @@ module _ (n : ℕ) (number img : List ℕ) (eight : length number ≡ 8) (whole 
         gaps = ap (gaps_blank n) image_at ∙ blank;
       })
 
--- the three copies that make a sheet
-pub sheet_filled : (n : ℕ) (number img old front : List ℕ) {second third : List ℕ} → length number ≡ 8 → 24 + length img ≡ length old
-    → front ≡ copied (header_of n) old
-    → second ≡ copied number (take (length front - 16) (drop 16 front))
-    → (let middle : List ℕ = take 16 front ++ (second ++ drop (length front - 16) (drop 16 front)) in
-    third ≡ copied img (take (length middle - 24) (drop 24 middle))
-    → take 24 middle ++ (third ++ drop (length middle - 24) (drop 24 middle)) ≡ sheet_of n number img)
-unfolding sheet_of
-sheet_filled n number img old front {second} {third} eight room one two three =
-    let long = header_length n in
-    let middle : List ℕ = take 16 front ++ (second ++ drop (length front - 16) (drop 16 front)) in
-    let header : front ≡ put_at 0 (header_of n) old = one ∙ sym (put_first (header_of n) old) in
-    let number_in : middle ≡ put_at 0 (header_of n ++ number) old =
-    put_back 16 number front second two ∙ ap (put_at 16 number) header ∙ put_next 0 (header_of n) number old 16 (omega arith) in
-    put_back 24 img middle third three
-    ∙ ap (put_at 24 img) number_in
-    ∙ put_next 0 (header_of n ++ number) img old 24 (simp length-append (omega arith))
-    ∙ put_first (header_of n ++ number ++ img) old
-    ∙ copied_same (header_of n ++ number ++ img) old (simp (length-append, header_length, eight) (omega arith))
+-- three parts put into a buffer that they fill
+pub parts_fill : (h number img s : List ℕ) → length h ≡ 16 → length number ≡ 8 → 24 + length img ≡ length s
+    → (let second : List ℕ = take 16 (h ++ drop 16 s) ++ (number ++ drop 8 (drop 16 (h ++ drop 16 s))) in
+    take 24 second ++ (img ++ drop (length second - 24) (drop 24 second)) ≡ h ++ number ++ img)
+parts_fill h number img s a b e =
+    let first : take 16 (h ++ drop 16 s) ≡ h = take_at h (drop 16 s) 16 a in
+    let second : drop 8 (drop 16 (h ++ drop 16 s)) ≡ drop 24 s = ap (drop 8) (drop_at h (drop 16 s) 16 a) ∙ drop-drop 8 16 s in
+    let front : length (h ++ number) ≡ 24 = length-append h number ∙ simp (a, b) in
+    let past : length (drop 24 s) ≤ length (h ++ number ++ drop 24 s) - 24 = rw length-append (omega arith) in
+    let whole : take 24 (h ++ number ++ drop 24 s) ++ (img ++ drop (length (h ++ number ++ drop 24 s) - 24) (drop 24 (h ++ number ++ drop 24 s))) ≡ h ++ number ++ img =
+    rw (take_at (h ++ number) (drop 24 s) 24 front, drop_at (h ++ number) (drop 24 s) 24 front, drop_of_length-le (drop 24 s) past, append-nil img) in
+    rw (first, second, ← append_assoc h number (drop 24 s)) whole
 
 pub sheet_laws : (n : ℕ) → SheetLaws n
 sheet_laws n =

@@ -1,8 +1,8 @@
 -- The decimal form of a number; how long the parts of a list are.
-use Prim.Native.Nat.{ℕ, zero, suc, ◌+◌, ◌-◌, ◌*◌, ◌/◌, ◌%◌, ◌≤◌, ◌<◌}
-use mathlib.Core.Path.{◌≡◌, ap, ◌∙◌}
+use Prim.Native.Nat.{ℕ, zero, suc, ◌+◌, ◌*◌, ◌/◌, ◌%◌, ◌≤◌, ◌<◌}
+use mathlib.Core.Path.{◌≡◌, ◌∙◌}
 use mathlib.Core.Bool.{Bool, true, false, cond}
-use mathlib.Core.List.{List, [], ◌∷◌, ◌++◌}
+use mathlib.Core.List.{List, [], ◌∷◌}
 use native.Mathlib.Decide.{dec_lt}
 use native.Mathlib.Nat.{div-div-eq-div-mul}
 use native.Mathlib.Omega.{arith}
@@ -13,7 +13,7 @@ use Rattle.base_types.specs.declared.verdict.Verdict.TheVariants.{Final, Loop, O
 use Rattle.chip_chain.specs.Walk.{walk_of, is_redirected, redirected_count}
 use Rattle.chip_chain.specs.Free.{free_count}
 use Rattle.plug_sheet.specs.Text.{digit_of, decimal, value_from, DecimalLaws}
-use Rattle.plug_sheet.specs.List.{pages_line, final_text, outside_text, verdict_text, verdict_line, page_line, page_lines, counts_line, list_of, room_for, ListLaws}
+use Rattle.plug_sheet.specs.List.{pages_line, final_text, outside_text, verdict_text, verdict_line, page_line, page_lines, counts_line, list_of, refused_line, room_for, ListLaws}
 
 -- ---- the decimal form
 
@@ -103,23 +103,17 @@ unfolding page_lines
 page_lines_length n img zero p = omega arith
 page_lines_length n img (suc k) p = simp length-append (omega (arith, page_line_length n img p, page_lines_length n img k (p + 1)))
 
--- one step of a loop over the pages
-module _ (n : ℕ) (img : List ℕ) (p : ℕ) where
-  pub lines_next : p < n → page_lines n img (n - p) p ≡ page_line n img p ++ page_lines n img (n - (p + 1)) (p + 1)
-  unfolding page_lines
-  lines_next lt = let e : n - p ≡ suc (n - (p + 1)) = omega arith in ap (λ k. page_lines n img k p) e
-
-  pub lines_over : n ≤ p → page_lines n img (n - p) p ≡ []
-  unfolding page_lines
-  lines_over le = let e : n - p ≡ 0 = omega arith in ap (λ k. page_lines n img k p) e
-
 pub counts_length : (n : ℕ) (img : List ℕ) → length (counts_line n img) ≤ 24
 unfolding counts_line
 counts_length n img = simp length-append (omega (arith, decimal_length (redirected_count n img), decimal_length (free_count n img)))
 
-list_length : (n : ℕ) (img : List ℕ) → length (list_of n img) ≤ room_for n
+pub list_length : (n : ℕ) (img : List ℕ) → length (list_of n img) ≤ room_for n
 unfolding list_of
 list_length n img = simp length-append (omega (arith, pages_length n, page_lines_length n img n 0, counts_length n img))
+
+pub refused_length : (number : ℕ) → length (refused_line number) ≤ 18
+unfolding refused_line
+refused_length number = simp length-append (omega (arith, decimal_length number))
 
 pub list_laws : (n : ℕ) → ListLaws n
 list_laws n = record { fits = list_length n }

@@ -1,6 +1,6 @@
 -- The list of a stored chip, as the bytes of its text. n is the page count.
 use Rattle.std.specs.Prelude.{ℕ, zero, suc, ◌+◌, ◌*◌, ◌≤◌, cond, List, [], ◌∷◌, ◌++◌, leb, length}
-use Rattle.base_types.specs.Outcome.{Outcome, accepted, refusing, judge, unless_refused}
+use Rattle.base_types.specs.Outcome.{Outcome, accepted, judge, unless_refused}
 use Rattle.base_types.specs.Refusal.{number_of}
 use Rattle.base_types.specs.declared.refusal.Refusal.{Refusal}
 use Rattle.base_types.specs.declared.verdict.Verdict.{Verdict}
@@ -8,8 +8,6 @@ use Rattle.base_types.specs.declared.verdict.Verdict.TheVariants.{Final, Loop, O
 use Rattle.chip_memory.specs.Page.{copied}
 use Rattle.chip_chain.specs.Walk.{walk_of, is_redirected, redirected_count}
 use Rattle.chip_chain.specs.Free.{free_count}
-use Rattle.plug_sheet.specs.declared.list.Listed.{Listed}
-use Rattle.plug_sheet.specs.declared.list.Listed.TheVariants.{Refused, Text}
 use Rattle.plug_sheet.specs.Text.{decimal}
 use Rattle.plug_sheet.specs.Stored.{is_sheet, image_part}
 
@@ -95,10 +93,6 @@ refused_line number = refused_word ++ (decimal number ++ newline)
 -- room that is enough for the list of every image
 abbrev pub room_for : ℕ → ℕ
 room_for n = 40 + 24 * n
-
-abbrev pub list_outcome : Listed → Outcome ℕ
-list_outcome (Refused r) = refusing r
-list_outcome (Text size) = accepted size
 
 -- 10 where there is less room than any list may need, 12, or the length of the text
 unfoldable pub list_answer : ℕ → List ℕ → List ℕ → Outcome ℕ

@@ -1,5 +1,5 @@
 -- Where each theorem is proved.
-use Prim.Native.Nat.{ℕ, ◌<◌, ◌≤◌}
+use Prim.Native.Nat.{ℕ, ◌<◌}
 use mathlib.Core.Path.{refl}
 use native.Mathlib.Omega.{arith}
 use lib.Dec.{lit≤}
@@ -35,7 +35,7 @@ use Rattle.plug_master_packing.proofs.Number.{number_packing}
 use Rattle.plug_master_packing.proofs.Page.{page_packing}
 use Rattle.plug_master_packing.proofs.Publisher.{publisher_packing}
 use Rattle.plug_call_laws.proofs.Laws.{run_laws}
-use Rattle.plug_theorems_laws.specs.Theorems.{PageCount, Theorems, Figures, Proved}
+use Rattle.plug_theorems_laws.specs.Theorems.{PageCount, Theorems, Proved}
 
 theorems : (n : ℕ) → PageCount n → Theorems n
 theorems n count =

@@ -3,13 +3,13 @@
 #![tactic(auto)]
 
 use base_types::address::Page;
-use base_types::refusal;
-use base_types::refusal::{Judged, Refusal};
+use base_types::refusal::Refusal;
+use chip_memory::image::Memory;
+use chip_memory::layout;
 use master_plan::kind;
-use master_reading::{End, Reading};
-use master_update::Updated;
+use master_reading::Reading;
 use plug_sheet::stored;
-use std::io;
+use std::{fmt, io};
 
 // The page that is asked for, and the page that is updated.
 const ASKED: u8 = 5;
@@ -18,119 +18,146 @@ const UPDATED: u8 = 1;
 
 // ---- text
 
-fn say(rt: &impl Print, words: &[u8]) -> io::Result<()> {
-    rt.write_all(words)
-}
+// A refusal by its number, and what it gives back, in the list's words.
+#[derive(Clone, Copy)]
+struct Told(Refusal);
 
-fn say_number(rt: &impl Print, n: u64) -> io::Result<()> {
-    print!(rt; "{n}")
-}
-
-fn say_page(rt: &impl Print, words: &[u8], page: u8) -> io::Result<()> {
-    say(rt, words)?;
-    say_number(rt, page as u64)
-}
-
-// What a refusal gives back, in the list's words.
-fn say_chain(rt: &impl Print, refusal: Refusal) -> io::Result<()> {
-    match refusal {
-        Refusal::Loop => say(rt, b" loop"),
-        Refusal::Outside(x) => say_page(rt, b" outside ", x),
-        _ => Ok(()),
+impl fmt::Display for Told {
+    fn fmt<W: fmt::Write>(&self, f: &mut fmt::Formatter<W>) -> fmt::Result {
+        write!(f, "refused {}", self.0.number())?;
+        match self.0 {
+            Refusal::Loop => write!(f, " loop"),
+            Refusal::Outside(x) => write!(f, " outside {x}"),
+            _ => Ok(()),
+        }
     }
 }
 
-fn say_refusal(rt: &impl Print, refusal: Refusal) -> io::Result<()> {
-    say_page(rt, b"refused ", refusal::number(refusal))?;
-    say_chain(rt, refusal)
+// How a read ended.
+#[derive(Clone, Copy)]
+struct End(Result<(Page, u8), Refusal>);
+
+impl fmt::Display for End {
+    fn fmt<W: fmt::Write>(&self, f: &mut fmt::Formatter<W>) -> fmt::Result {
+        match self.0 {
+            Ok((page, hops)) => write!(f, "final {} hops {hops}", page.0),
+            Err(refusal) => write!(f, "{}", Told(refusal)),
+        }
+    }
 }
 
-fn say_final(rt: &impl Print, page: Page, hops: u8) -> io::Result<()> {
-    say_page(rt, b"final ", page.0)?;
-    say_page(rt, b" hops ", hops)
+// Which page a redirection byte names.
+#[derive(Clone, Copy)]
+struct Named(u8);
+
+impl fmt::Display for Named {
+    fn fmt<W: fmt::Write>(&self, f: &mut fmt::Formatter<W>) -> fmt::Result {
+        match self.0 {
+            0xFF => write!(f, "names no page"),
+            byte => write!(f, "names page {}", 255 - byte),
+        }
+    }
 }
 
-fn say_end(rt: &impl Print, end: End) -> io::Result<()> {
-    match end {
-        End::Refused(r) => say_refusal(rt, r),
-        End::Final(page, hops) => say_final(rt, page, hops),
+// What is read after an update: how the read ended, and whose bytes they are.
+#[derive(Clone, Copy)]
+struct After {
+    end: End,
+    bytes: &'static str,
+}
+
+impl fmt::Display for After {
+    fn fmt<W: fmt::Write>(&self, f: &mut fmt::Formatter<W>) -> fmt::Result {
+        write!(f, "{}, {}", self.end, self.bytes)
     }
 }
 
 // ---- the chip of a sheet
 
-fn image_of(sheet: &[u8]) -> [u8; 2368] {
-    let mut image = [0xFFu8; 2368];
-    chip_memory::page::copy(stored::image(sheet), &mut image);
-    image
+#[derive(Clone, Copy)]
+struct Plug {
+    number: [u8; 8],
+    image: [u8; 2368],
 }
 
-fn number_of(sheet: &[u8]) -> [u8; 8] {
-    let mut number = [0u8; 8];
-    chip_memory::page::copy(stored::number(sheet), &mut number);
-    number
-}
+impl Plug {
+    fn of(sheet: &[u8]) -> Plug {
+        let mut number = [0u8; 8];
+        chip_memory::page::copy(stored::number(sheet), &mut number);
+        let mut image = [0xFFu8; 2368];
+        chip_memory::page::copy(stored::image(sheet), &mut image);
+        Plug { number, image }
+    }
 
-// A page read over the bus, from a chip whose memory is the image.
-fn read_from(image: &mut [u8; 2368], number: [u8; 8], page: u8, buffer: &mut [u8; 32]) -> Reading {
-    master_reading::read(image, number, Page(page), buffer)
-}
+    // A page read over the bus.
+    fn read(&self, page: u8, buffer: &mut [u8; 32]) -> Reading {
+        let mut image = self.image;
+        master_reading::read(&mut image, self.number, Page(page), buffer)
+    }
 
-fn read(sheet: &[u8], page: u8, buffer: &mut [u8; 32]) -> Reading {
-    let mut image = image_of(sheet);
-    read_from(&mut image, number_of(sheet), page, buffer)
-}
+    // The update, cut after so many events.
+    fn update(&mut self, events: u32) -> Result<(Page, Page), Refusal> {
+        let kind = kind::ordinary();
+        master_update::update(
+            kind,
+            &mut self.image,
+            self.number,
+            &new_page(),
+            Page(UPDATED),
+            events,
+        )
+    }
 
-// ---- what a page leads to
+    // The page read over the bus after an update that was cut after so many events.
+    fn read_after(&self, events: u32, buffer: &mut [u8; 32]) -> Reading {
+        let mut updated = *self;
+        let _ = updated.update(events);
+        updated.read(UPDATED, buffer)
+    }
 
-fn say_named(rt: &impl Print, byte: u8) -> io::Result<()> {
-    if byte == 0xFF {
-        say(rt, b"names no page")
-    } else {
-        say_page(rt, b"names page ", 255 - byte)
+    fn is_old(&self, buffer: &[u8; 32]) -> bool {
+        let mut old = [0u8; 32];
+        self.read(UPDATED, &mut old);
+        buffer == &old
+    }
+
+    fn after(&self, events: u32) -> After {
+        let mut buffer = [0u8; 32];
+        let reading = self.read_after(events, &mut buffer);
+        let bytes = if self.is_old(&buffer) {
+            "the old page"
+        } else if buffer == new_page() {
+            "the new page"
+        } else {
+            "neither page"
+        };
+        After {
+            end: End(reading.end),
+            bytes,
+        }
+    }
+
+    fn reads_old(&self, events: u32) -> bool {
+        let mut buffer = [0u8; 32];
+        self.read_after(events, &mut buffer);
+        self.is_old(&buffer)
+    }
+
+    // Every cut is tried, up to the last one before another page is read.
+    fn last_old(&self) -> u32 {
+        let end = whole();
+        for k in 0..end {
+            if !self.reads_old(k + 1) {
+                return k;
+            }
+        }
+        end
     }
 }
-
-fn show_redirection(rt: &impl Print, sheet: &[u8]) -> io::Result<()> {
-    let last = Page(chip_memory::layout::DS2505);
-    let byte = chip_memory::image::redirection_of(stored::image(sheet), last, Page(ASKED)).0;
-    say_page(rt, b"page ", ASKED)?;
-    say(rt, b": redirection byte ")?;
-    print!(rt; "{byte:02x}")?;
-    say(rt, b"h ")?;
-    say_named(rt, byte)?;
-    say_page(rt, b", the last page is ", last.0)?;
-    say(rt, b"\n")
-}
-
-fn show_read(rt: &impl Print, sheet: &[u8], page: u8) -> io::Result<()> {
-    let mut buffer = [0u8; 32];
-    let reading = read(sheet, page, &mut buffer);
-    let end = reading.end;
-    say_page(rt, b"page ", page)?;
-    say(rt, b" read over the bus: ")?;
-    say_end(rt, end)?;
-    say(rt, b", after ")?;
-    say_number(rt, reading.events as u64)?;
-    say(rt, b" events\n")
-}
-
-// ---- an update
 
 // The page that is then to be read.
 fn new_page() -> [u8; 32] {
     [0x22u8; 32]
-}
-
-fn update(sheet: &[u8], image: &mut [u8; 2368], events: u32) -> Updated {
-    master_update::update(
-        kind::ordinary(),
-        image,
-        number_of(sheet),
-        &new_page(),
-        Page(UPDATED),
-        events,
-    )
 }
 
 // How many events a whole update has.
@@ -138,115 +165,73 @@ fn whole() -> u32 {
     kind::total(kind::ordinary()) as u32
 }
 
-// The page read over the bus after an update that was cut after so many events.
-fn read_after(sheet: &[u8], events: u32, buffer: &mut [u8; 32]) -> Reading {
-    let mut image = image_of(sheet);
-    update(sheet, &mut image, events);
-    read_from(&mut image, number_of(sheet), UPDATED, buffer)
+// ---- what a page leads to
+
+fn show_redirection(rt: &impl Print, sheet: &[u8]) -> io::Result<()> {
+    let memory = Memory {
+        image: stored::image(sheet),
+        last: layout::DS2505,
+    };
+    let byte = memory.redirection_of(Page(ASKED)).0;
+    let named = Named(byte);
+    let last = memory.last.0;
+    println!(rt; "page {ASKED}: redirection byte {byte:02x}h {named}, the last page is {last}")
 }
 
-fn are_same(a: &[u8; 32], b: &[u8; 32]) -> bool {
-    a == b
-}
-
-fn is_old(sheet: &[u8], buffer: &[u8; 32]) -> bool {
-    let mut old = [0u8; 32];
-    read(sheet, UPDATED, &mut old);
-    are_same(buffer, &old)
-}
-
-fn say_which(rt: &impl Print, sheet: &[u8], buffer: &[u8; 32]) -> io::Result<()> {
-    if is_old(sheet, buffer) {
-        return say(rt, b"the old page");
-    }
-    if are_same(buffer, &new_page()) {
-        return say(rt, b"the new page");
-    }
-    say(rt, b"neither page")
-}
-
-// What is read after an update of so many events, after the words for them.
-fn show_after(
-    rt: &impl Print,
-    sheet: &[u8],
-    before: &[u8],
-    events: u32,
-    after: &[u8],
-) -> io::Result<()> {
+fn show_read(rt: &impl Print, plug: &Plug, page: u8) -> io::Result<()> {
     let mut buffer = [0u8; 32];
-    let reading = read_after(sheet, events, &mut buffer);
-    let end = reading.end;
-    say_page(rt, b"update of page ", UPDATED)?;
-    say(rt, before)?;
-    say_number(rt, events as u64)?;
-    say(rt, after)?;
-    say_end(rt, end)?;
-    say(rt, b", ")?;
-    say_which(rt, sheet, &buffer)?;
-    say(rt, b"\n")
+    let reading = plug.read(page, &mut buffer);
+    let (end, events) = (End(reading.end), reading.events);
+    println!(rt; "page {page} read over the bus: {end}, after {events} events")
 }
 
-fn reads_old(sheet: &[u8], events: u32) -> bool {
-    let mut buffer = [0u8; 32];
-    read_after(sheet, events, &mut buffer);
-    is_old(sheet, &buffer)
-}
+// ---- an update
 
-// Every cut is tried, up to the last one before another page is read.
-fn last_old(sheet: &[u8]) -> u32 {
-    let end = whole();
-    for k in 0..end {
-        if !reads_old(sheet, k + 1) {
-            return k;
-        }
-    }
-    end
-}
-
-fn show_cut(rt: &impl Print, sheet: &[u8], events: u32) -> io::Result<()> {
-    show_after(rt, sheet, b", cut after event ", events, b": ")
+fn show_cut(rt: &impl Print, plug: &Plug, events: u32) -> io::Result<()> {
+    let after = plug.after(events);
+    println!(rt; "update of page {UPDATED}, cut after event {events}: {after}")
 }
 
 // At the visible event, and at the one before it.
-fn show_cuts(rt: &impl Print, sheet: &[u8]) -> io::Result<()> {
-    let before = last_old(sheet);
+fn show_cuts(rt: &impl Print, plug: &Plug) -> io::Result<()> {
+    let before = plug.last_old();
     if before < whole() {
-        show_cut(rt, sheet, before)?;
-        show_cut(rt, sheet, before + 1)?;
+        show_cut(rt, plug, before)?;
+        show_cut(rt, plug, before + 1)?;
     }
     Ok(())
 }
 
-fn show_update(rt: &impl Print, sheet: &[u8]) -> io::Result<()> {
-    let mut image = image_of(sheet);
-    match update(sheet, &mut image, 0) {
-        Updated::Refused(r) => {
-            say_page(rt, b"update of page ", UPDATED)?;
-            say(rt, b": ")?;
-            say_refusal(rt, r)?;
-            say(rt, b"\n")
+fn show_update(rt: &impl Print, plug: &Plug) -> io::Result<()> {
+    let mut untouched = *plug;
+    match untouched.update(0) {
+        Err(refusal) => {
+            let told = Told(refusal);
+            println!(rt; "update of page {UPDATED}: {told}")
         }
-        Updated::Ran(_, _) => {
-            show_cuts(rt, sheet)?;
-            show_after(rt, sheet, b", all ", whole(), b" events: ")
+        Ok(_) => {
+            show_cuts(rt, plug)?;
+            let events = whole();
+            let after = plug.after(events);
+            println!(rt; "update of page {UPDATED}, all {events} events: {after}")
         }
     }
 }
 
 fn show(rt: &impl Print, sheet: &[u8]) -> io::Result<()> {
+    let plug = Plug::of(sheet);
     show_redirection(rt, sheet)?;
     program_listing::print(rt, sheet)?;
-    show_read(rt, sheet, ASKED)?;
-    show_read(rt, sheet, UPDATED)?;
-    show_update(rt, sheet)
+    show_read(rt, &plug, ASKED)?;
+    show_read(rt, &plug, UPDATED)?;
+    show_update(rt, &plug)
 }
 
 fn main(rt: HostRuntime) -> io::Result<()> {
     let mut input = [0u8; 2393];
-    let size = program_listing::read(&mut rt.stdin(), &mut input)?;
-    let sheet = &input[..size];
+    let sheet = program_listing::read(&mut rt.stdin(), &mut input)?;
     match stored::judge(sheet) {
-        Judged::Refused(_) => program_listing::print(&rt, sheet),
-        Judged::Accepted => show(&rt, sheet),
+        Ok(()) => show(&rt, sheet),
+        Err(_) => program_listing::print(&rt, sheet),
     }
 }

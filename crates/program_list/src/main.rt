@@ -5,6 +5,6 @@ use std::io;
 
 fn main(rt: HostRuntime) -> io::Result<()> {
     let mut input = [0u8; 2393];
-    let size = program_listing::read(&mut rt.stdin(), &mut input)?;
-    program_listing::print(&rt, &input[..size])
+    let sheet = program_listing::read(&mut rt.stdin(), &mut input)?;
+    program_listing::print(&rt, sheet)
 }

@@ -1,92 +1,43 @@
 // Decimal numbers, read from text.
-ghost use Rattle.std.specs.Prelude.{◌≡◌, ◌≤◌, length};
-ghost use Rattle.program_text.specs.Numeral.{is_digit, digits_from, natural_of, is_negative, plus, minus, integer_of};
-
-#[derive(Clone, Copy)]
-pub enum Unsigned {
-    Faulty,
-    Number(u32),
-}
-
-#[derive(Clone, Copy)]
-pub enum Signed {
-    Faulty,
-    Number(i32),
-}
-
-fn is_digit(b: u8) -> bool
-    ensures { result ≡ is_digit b }
-{
-    if b < b'0' {
-        return false;
-    }
-    b <= b'9'
-}
+ghost use Rattle.std.specs.Prelude.{◌≡◌, ◌<◌, ◌≤◌, ◌^◌, IfSome, length};
+ghost use Rattle.program_text.specs.Numeral.{digits_from, natural_of, integer_of};
 
 // The number of at most nine digits, which thirty-two bits hold.
-fn digits(text: &[u8]) -> Unsigned
+#[tactic(auto, using(crate::proofs::Numerals::digits_step, crate::proofs::Numerals::digits_end), unfolding(crate::specs::Numeral::is_digit))]
+fn digits(text: &[u8]) -> Option<u32>
     requires { length text.now ≤ 9 }
-    ensures { result ≡ digits_from 0 text.now }
+    ensures value { result ≡ digits_from 0 text.now }
+    ensures below { IfSome result (λ x. x < 10 ^ length text.now) }
 {
     let mut value: u32 = 0;
-    for i in 0..text.len() {
-        let digit = text[i];
-        if !is_digit(digit) {
-            return Unsigned::Faulty;
+    for byte in text {
+        if !byte.is_ascii_digit() {
+            return None;
         }
-        value = 10 * value + (digit - b'0') as u32;
+        value = 10 * value + (*byte - b'0') as u32;
     }
-    Unsigned::Number(value)
+    Some(value)
 }
 
-// A number without a sign, of one to nine digits.
-pub fn natural(text: &[u8]) -> Unsigned
-    ensures { result ≡ natural_of text.now }
+// A number without a sign, of one to nine digits. The standard library's parse takes a plus sign and ten digits too.
+#[tactic(auto, unfolding(crate::specs::Numeral::natural_of))]
+pub fn natural(text: &[u8]) -> Option<u32>
+    ensures value { result ≡ natural_of text.now }
+    ensures below { IfSome result (λ x. x < 10 ^ 9) }
 {
-    if text.len() < 1 {
-        return Unsigned::Faulty;
-    }
-    if 9 < text.len() {
-        return Unsigned::Faulty;
+    if text.is_empty() || 9 < text.len() {
+        return None;
     }
     digits(text)
 }
 
-fn is_negative(text: &[u8]) -> bool
-    ensures { result ≡ is_negative text.now }
-{
-    if text.len() < 1 {
-        return false;
-    }
-    text[0] == b'-'
-}
-
-// The number of a text that has no minus.
-fn positive(text: &[u8]) -> Signed
-    ensures { result ≡ plus (natural_of text.now) }
-{
-    match natural(text) {
-        Unsigned::Faulty => Signed::Faulty,
-        Unsigned::Number(x) => Signed::Number(x as i32),
-    }
-}
-
-// The number of a text after its minus.
-fn negative(text: &[u8]) -> Signed
-    ensures { result ≡ minus (natural_of text.now) }
-{
-    match natural(text) {
-        Unsigned::Faulty => Signed::Faulty,
-        Unsigned::Number(x) => Signed::Number(-(x as i32)),
-    }
-}
-
 // A number of one to nine digits, with a minus in front or without.
-pub fn integer(text: &[u8]) -> Signed
+#[tactic(auto, using(crate::proofs::Numerals::minus_first, crate::proofs::Numerals::minus_not_first))]
+pub fn integer(text: &[u8]) -> Option<i32>
     ensures { result ≡ integer_of text.now }
 {
-    if is_negative(text) {
-        return negative(&text[1..]);
+    match text.strip_prefix(b"-") {
+        Some(digits) => natural(digits).map(|x| -(x as i32)),
+        None => natural(text).map(|x| x as i32),
     }
-    positive(text)
 }

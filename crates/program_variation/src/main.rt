@@ -1,10 +1,7 @@
 // The variation at a latitude and a column, the two arguments, of the stored sheet on standard input.
 #![tactic(auto)]
 
-ghost use Rattle.std.specs.Prelude.{◌≤◌, length};
-
 use program_text::numeral;
-use program_text::numeral::{Signed, Unsigned};
 use std::env::{Env, FillError};
 use std::io;
 
@@ -16,11 +13,8 @@ fn print_usage(rt: &impl Eprint) -> io::Result<()> {
 
 fn answer(rt: &HostRuntime, latitude: i32, column: u32) -> io::Result<()> {
     let mut input = [0u8; 2393];
-    let size = program_listing::read(&mut rt.stdin(), &mut input)?;
-    program_text::print_variation(
-        rt,
-        plug_sheet_lookup::variation(&input[..size], latitude, column),
-    )
+    let sheet = program_listing::read(&mut rt.stdin(), &mut input)?;
+    program_text::print_variation(rt, plug_sheet_lookup::variation(sheet, latitude, column))
 }
 
 // Whether there is such an argument; 0 is the program's name.
@@ -29,41 +23,26 @@ fn has_arg(rt: &impl Env, i: usize) -> bool {
     !matches!(rt.arg(i, &mut text), Err(FillError::NotPresent))
 }
 
-// An argument's bytes into the text, and how many it has. One that is longer than the text gives none, and no bytes are no number.
-fn arg(rt: &impl Env, i: usize, text: &mut [u8]) -> usize
-    ensures { result ≤ length text.new }
-{
-    match rt.arg(i, text) {
-        Ok(size) => size,
-        Err(_) => 0,
+// An argument's bytes; none where they are more than the text holds.
+fn arg<'a>(rt: &impl Env, i: usize, text: &'a mut [u8; 16]) -> Option<&'a [u8]> {
+    let size = rt.arg(i, text).ok()?;
+    Some(&text[..size])
+}
+
+// The latitude and the column, where these are the arguments.
+fn arguments(rt: &impl Env) -> Option<(i32, u32)> {
+    if !has_arg(rt, 2) || has_arg(rt, 3) {
+        return None;
     }
-}
-
-fn latitude(rt: &impl Env) -> Signed {
     let mut text = [0u8; 16];
-    let size = arg(rt, 1, &mut text);
-    numeral::integer(&text[..size])
-}
-
-fn column(rt: &impl Env) -> Unsigned {
-    let mut text = [0u8; 16];
-    let size = arg(rt, 2, &mut text);
-    numeral::natural(&text[..size])
-}
-
-fn at_latitude(rt: &HostRuntime, latitude: i32) -> io::Result<()> {
-    match column(rt) {
-        Unsigned::Faulty => print_usage(rt),
-        Unsigned::Number(x) => answer(rt, latitude, x),
-    }
+    let latitude = numeral::integer(arg(rt, 1, &mut text)?)?;
+    let column = numeral::natural(arg(rt, 2, &mut text)?)?;
+    Some((latitude, column))
 }
 
 fn main(rt: HostRuntime) -> io::Result<()> {
-    if !has_arg(&rt, 2) || has_arg(&rt, 3) {
-        return print_usage(&rt);
-    }
-    match latitude(&rt) {
-        Signed::Faulty => print_usage(&rt),
-        Signed::Number(v) => at_latitude(&rt, v),
+    match arguments(&rt) {
+        Some((latitude, column)) => answer(&rt, latitude, column),
+        None => print_usage(&rt),
     }
 }

@@ -1,15 +1,16 @@
 -- The inner steps of the number read, as the code takes them: what a reply does to a state, and what is told on the way into one.
 -- The state says which event was last sent. What the calls do as a whole is said by the script, in master_number_laws.
-use Rattle.std.specs.Prelude.{ℕ, ◌+◌, ◌-◌, ◌%◌, Bool, true, false, cond, List, ltb, set}
+use Rattle.std.specs.Prelude.{ℕ, ◌+◌, ◌-◌, ◌%◌, Bool, true, false, cond, List, Result, Ok, Err, ltb, set}
+use Rattle.base_types.specs.declared.refusal.Refusal.{Refusal}
 use Rattle.base_types.specs.Bits.{bit_at, shift_in}
+use Rattle.bus_events.specs.declared.Next.{Next}
+use Rattle.bus_events.specs.declared.Next.TheVariants.{Send, End}
 use Rattle.bus_events.specs.Events.{reset, slot, read_slot}
 use Rattle.master_number.specs.declared.Phase.{Phase}
 use Rattle.master_number.specs.declared.Phase.TheVariants.{Begin, Presence, Command, Receive, Closing, Done, Stopped}
 use Rattle.master_number.specs.declared.NumberStop.{NumberStop}
 use Rattle.master_number.specs.declared.NumberStop.TheVariants.{NoPresence, Crc8, Family}
 use Rattle.master_number.specs.declared.NumberRead.{NumberRead}
-use Rattle.master_number.specs.declared.Answer.{Answer}
-use Rattle.master_number.specs.declared.Answer.TheVariants.{Send, Done as Ended, Refused}
 use Rattle.master_number.specs.Number.{crc_fits, family_fits, number_stop}
 
 abbrev pub number_with : NumberRead → Phase → NumberRead
@@ -64,11 +65,12 @@ number_next s reply = number_next_at s.phase s reply
 
 -- ---- what is told on the way into a state
 
-unfoldable pub number_phase_answer : Phase → Answer
-number_phase_answer Begin = Send reset
-number_phase_answer Presence = Send reset
-number_phase_answer (Command i) = Send (slot (bit_at 0x33 (i % 8)))
-number_phase_answer (Receive k left v) = Send read_slot
-number_phase_answer Closing = Send reset
-number_phase_answer Done = Ended
-number_phase_answer (Stopped cause) = Refused (number_stop cause)
+-- the end hands over the state's bytes
+unfoldable pub number_phase_answer : Phase → List ℕ → Result (Next (List ℕ)) Refusal
+number_phase_answer Begin bytes = Ok (Send reset)
+number_phase_answer Presence bytes = Ok (Send reset)
+number_phase_answer (Command i) bytes = Ok (Send (slot (bit_at 0x33 (i % 8))))
+number_phase_answer (Receive k left v) bytes = Ok (Send read_slot)
+number_phase_answer Closing bytes = Ok (Send reset)
+number_phase_answer Done bytes = Ok (End bytes)
+number_phase_answer (Stopped cause) bytes = Err (number_stop cause)

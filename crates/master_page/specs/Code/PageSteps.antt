@@ -1,8 +1,11 @@
 -- The inner steps of the page read, as the code takes them, over the page count n: what a reply does to a state, and what is told on the way
 -- into one. The state says which event was last sent. What the calls do as a whole is said by the script, in master_page_laws.
-use Rattle.std.specs.Prelude.{ℕ, ◌+◌, ◌-◌, ◌*◌, ◌/◌, ◌%◌, Bool, true, false, cond, not, List, [], ◌∷◌, ◌++◌, ltb, eqb, set}
+use Rattle.std.specs.Prelude.{ℕ, ◌+◌, ◌-◌, ◌*◌, ◌/◌, ◌%◌, Bool, true, false, cond, not, [], ◌∷◌, ◌++◌, Result, Ok, Err, ltb, eqb, set}
+use Rattle.base_types.specs.declared.refusal.Refusal.{Refusal}
 use Rattle.base_types.specs.Bits.{one, bit_at}
 use Rattle.base_types.specs.declared.address.Page.{Page}
+use Rattle.bus_events.specs.declared.Next.{Next}
+use Rattle.bus_events.specs.declared.Next.TheVariants.{Send, End}
 use Rattle.bus_events.specs.Events.{reset, slot, read_slot}
 use Rattle.chip_memory.specs.Layout.{is_page}
 use Rattle.chip_chain.specs.Walk.{named_by}
@@ -13,8 +16,6 @@ use Rattle.master_page.specs.declared.Phase.TheVariants.{Begin, Presence, Comman
 use Rattle.master_page.specs.declared.PageStop.{PageStop}
 use Rattle.master_page.specs.declared.PageStop.TheVariants.{Loop, Outside, Crc16, NoPresence}
 use Rattle.master_page.specs.declared.PageRead.{PageRead}
-use Rattle.master_page.specs.declared.Answer.{Answer}
-use Rattle.master_page.specs.declared.Answer.TheVariants.{Send, Final, Refused}
 use Rattle.master_page.specs.Page.{address_low, address_high, command_bytes, crc_sent, page_stop}
 
 -- ---- what is sent: Skip, Extended Read, and the address 32p
@@ -103,14 +104,15 @@ page_next n s reply = page_next_at n s.phase s reply
 
 -- ---- what is told on the way into a state
 
-unfoldable pub page_phase_answer : Phase → Page → ℕ → Answer
-page_phase_answer Begin page hops = Send reset
-page_phase_answer Presence page hops = Send reset
-page_phase_answer (Command i) page hops = Send (slot (command_bit page.0 i))
-page_phase_answer (Receive part left v) page hops = Send read_slot
-page_phase_answer Closing page hops = Send reset
-page_phase_answer Done page hops = Final page hops
-page_phase_answer (Stopped cause) page hops = Refused (page_stop cause)
+-- the end hands over the page and the hops
+unfoldable pub page_phase_answer : Phase → Page → ℕ → Result (Next (Page × ℕ)) Refusal
+page_phase_answer Begin page hops = Ok (Send reset)
+page_phase_answer Presence page hops = Ok (Send reset)
+page_phase_answer (Command i) page hops = Ok (Send (slot (command_bit page.0 i)))
+page_phase_answer (Receive part left v) page hops = Ok (Send read_slot)
+page_phase_answer Closing page hops = Ok (Send reset)
+page_phase_answer Done page hops = Ok (End (page, hops))
+page_phase_answer (Stopped cause) page hops = Err (page_stop cause)
 
 -- the one call that first tells Final: after the closing reset, with presence
 abbrev pub finishes : Phase → Bool → Bool

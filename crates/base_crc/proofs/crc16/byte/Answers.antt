@@ -1,4 +1,4 @@
--- `crc::crc16::byte` meets its contract, by the law of the nibbles' entries.
+-- `base_crc::crc16::byte` meets its contract, by the law of the nibbles' entries.
 use mathlib.Core.Path.{ap₂, ◌∙◌}
 use mathlib.Core.List.{List}
 use Prim.Native.Nat.{ℕ}

@@ -1,8 +1,8 @@
--- `crc::crc16::run` meets its contract: the bytes that are left go into the register as all of them do at the start.
+-- `base_crc::crc16::run` meets its contract: the bytes that are left go into the register as all of them do at the start.
 use mathlib.Core.Path.{◌≡◌}
-use Prim.Native.Nat.{ℕ, ◌≤◌, ◌<◌, ◌-◌}
+use Prim.Native.Nat.{ℕ, ◌<◌}
 use lib.Bits.{bit_xor}
-use lib.ListN.{length, get_or, drop}
+use lib.ListN.{get_or, drop}
 use Rattle.base_crc.specs.Polynomial.{crc16_polynomial}
 use Rattle.base_crc.specs.Crc.{crc16_from}
 use Rattle.base_crc.specs.Table.{table_of}
@@ -12,8 +12,5 @@ use Rattle.base_crc.proofs.crc16.run.Given as goal
 abbrev pub kept : ℕ → ℕ → ℕ
 kept rest place = bit_xor rest (get_or (table_of crc16_polynomial) place 0)
 
-abbrev pub invariant-loop-i : goal.invariant-loop-i
-invariant-loop-i l = (l.i ≤ length l.bytes) × (l.place < 256) × (crc16_from (kept l.rest l.place) (drop l.i l.bytes) ≡ crc16_from l.reg l.bytes)
-
-abbrev pub decreases-loop-i : goal.decreases-loop-i
-decreases-loop-i l = length l.bytes - l.i
+abbrev pub invariant-loop-b : goal.invariant-loop-b
+invariant-loop-b l = (l.place < 256) × (crc16_from (kept l.rest l.place) (drop l.b-index l.bytes) ≡ crc16_from l.reg l.bytes)

@@ -1,4 +1,4 @@
--- `crc::crc16::table` meets its contract: every entry is computed anew and compared.
+-- `base_crc::crc16::table` meets its contract: every entry is computed anew and compared.
 use mathlib.Core.Path.{refl}
 use Rattle.base_types.specs.Bits.{bits_of}
 use Rattle.base_types.specs.Scan.{values_from}

@@ -1,4 +1,4 @@
--- `crc::crc8::bit` meets its contract, by the step's law at this polynomial.
+-- `base_crc::crc8::bit` meets its contract, by the step's law at this polynomial.
 use Rattle.base_crc.specs.Polynomial.{crc8_polynomial}
 use Rattle.base_crc.proofs.Steps.{same, differs}
 use Rattle.base_crc.proofs.crc8.bit.Goals as goal

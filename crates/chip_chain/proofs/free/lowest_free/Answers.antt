@@ -1,33 +1,22 @@
-use Prim.Native.Nat.{◌-◌, ◌≤◌}
-use mathlib.Core.Path.{◌≡◌, sym, ap, ◌∙◌}
-use native.Mathlib.Omega.{arith}
-use native.Mathlib.Nat.{sub-zero}
-use Rattle.chip_memory.specs.Layout.{page_count}
-use Rattle.chip_chain.specs.Scan.{first}
+use Prim.Native.Nat.{ℕ, ◌+◌}
+use mathlib.Core.Path.{sym, ◌∙◌}
+use borrow.Author.Rules.{rules}
+use Rattle.std.proofs.lemmas.Iterator.{YieldsList-from_map}
+use Rattle.std.proofs.lemmas.Iterator.Adapters.{option_map_id}
+use Rattle.std.proofs.lemmas.Iterator.Consumers.{YieldsList-at}
+use Rattle.std.proofs.lemmas.Iterator.Search.{find_from_yields_List}
+use Rattle.base_types.specs.declared.address.Page.{Page}
 use Rattle.chip_chain.specs.Free.{is_free_other, lowest_free}
-use Rattle.chip_chain.proofs.Scan.{first_found, first_goes_on, first_over}
+use Rattle.chip_chain.proofs.Pages.{all_pages, found_first}
 use Rattle.chip_chain.proofs.free.lowest_free.Goals as goal
 
-pub loop-p-init : goal.loop-p-init
-unfolding lowest_free
-loop-p-init c = let a = c.args in
-    let n = page_count a.last in
-    (omega arith, c.page_count-p-end.ensures, ap (λ k. first (is_free_other n a.image.now a.other.0) k 0) (sym (sub-zero n)))
-
-pub returns-then-is_free_other : goal.returns-then-is_free_other
-returns-then-is_free_other c = let a = c.args in
-    let l = c.loop-p in
-    let n = page_count a.last in
-    sym (l.invariant.2 ∙ first_found (is_free_other n a.image.now a.other.0) n l.p (omega arith) (sym c.is_free_other.ensures ∙ c.if-is_free_other.true))
-
-pub loop-p-preserved : goal.loop-p-preserved
-loop-p-preserved c = let a = c.args in
-    let l = c.loop-p in
-    let n = page_count a.last in
-    (omega arith, l.invariant.1, l.invariant.2 ∙ first_goes_on (is_free_other n a.image.now a.other.0) n l.p (omega arith) (sym c.is_free_other.ensures ∙ c.if-is_free_other.false))
-
 pub returns : goal.returns
+unfolding lowest_free
 returns c = let a = c.args in
-    let l = c.loop-p in
-    let n = page_count a.last in
-    sym (l.invariant.2 ∙ first_over (is_free_other n a.image.now a.other.0) n l.p (omega arith))
+    let last = a.memory.now.last.0 in
+    let t = is_free_other (last + 1) a.memory.now.image.now a.other.0 in
+    sym (option_map_id c.find.result)
+    ∙ find_from_yields_List (λ (p : Page). t p.0) _ _ c.find.result c.find.ensures.ran
+    (YieldsList-from_map _ (λ (q : ℕ). record { 0 = q }) (YieldsList-at c.map.ensures.source (all_pages last c.new.ensures.start c.new.ensures.end c.new.ensures.exhausted))
+    c.map.ensures.closure (λ x r q k. search rules)) (λ x b q k. search rules)
+    ∙ found_first t (last + 1) 0

@@ -1,13 +1,15 @@
-use mathlib.Core.Path.{◌∙◌, sym, ap}
-use Rattle.base_types.specs.Outcome.{accepted, refusing, judged_outcome}
+use mathlib.Core.Path.{◌∙◌, ap}
+use Rattle.std.proofs.lemmas.Result.{err_from_is_err_and}
+use Rattle.base_types.specs.Outcome.{accepted}
 use Rattle.chip_images.specs.Walk.{walk_answer}
 use Rattle.chip_images.proofs.Judging.{on_page_lem}
 use Rattle.chip_images.proofs.walk.walk.Goals as goal
 
-pub returns-in-Refused : goal.returns-in-Refused
+pub returns-in_err-judge : goal.returns-in_err-judge
 unfolding walk_answer
-returns-in-Refused c = on_page_lem 64 _ _ _ (sym (ap judged_outcome c.in-Refused.is) ∙ c.judge.ensures)
+returns-in_err-judge c = let p = err_from_is_err_and c.from_residual.result c.from_residual.ensures.1 in
+    rw (p.1, p.2) (on_page_lem 64 _ _ _ c.in_err-judge.ensures)
 
-pub returns-in-Accepted : goal.returns-in-Accepted
+pub returns : goal.returns
 unfolding walk_answer
-returns-in-Accepted c = ap accepted c.walk.ensures ∙ on_page_lem 64 _ _ _ (sym (ap judged_outcome c.in-Accepted.is) ∙ c.judge.ensures)
+returns c = ap accepted c.walk.ensures ∙ on_page_lem 64 _ _ _ c.in_ok-judge.ensures

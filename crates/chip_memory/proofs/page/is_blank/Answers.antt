@@ -1,23 +1,13 @@
-use Prim.Native.Nat.{◌-◌, ◌≤◌}
-use mathlib.Core.Path.{◌≡◌, refl, ◌∙◌}
-use native.Mathlib.Omega.{arith}
-use lib.ListN.{length, drop}
-use Rattle.chip_memory.specs.Page.{is_blank}
-use Rattle.chip_memory.proofs.Pages.{blank_next, blank_not, blank_end}
+use Prim.Native.Nat.{ℕ}
+use lib.Dec.{eqb}
+use mathlib.Core.Path.{◌∙◌}
 use borrow.Author.Rules.{rules}
+use Rattle.std.proofs.lemmas.Iterator.{YieldsList-from_slice}
+use Rattle.std.proofs.lemmas.Iterator.Search.{all_from_yields_List}
+use Rattle.chip_memory.proofs.Pages.{all_blank}
 use Rattle.chip_memory.proofs.page.is_blank.Goals as goal
 
-pub loop-i-init : goal.loop-i-init
-loop-i-init c = (search rules, refl, refl)
-
-pub returns-then-page-i : goal.returns-then-page-i
-returns-then-page-i c = blank_not c.args.page.now c.loop-i.i (omega arith) c.if-page-i.true ∙ c.loop-i.invariant.2
-
-pub loop-i-smaller : goal.loop-i-smaller
-loop-i-smaller c = omega arith
-
-pub loop-i-preserved : goal.loop-i-preserved
-loop-i-preserved c = (omega arith, c.loop-i.invariant.1, blank_next c.args.page.now c.loop-i.i (omega arith) c.if-page-i.false ∙ c.loop-i.invariant.2)
-
 pub returns : goal.returns
-returns c = blank_end c.args.page.now c.loop-i.i (omega arith) ∙ c.loop-i.invariant.2
+returns c =
+    all_from_yields_List (λ (b : ℕ). eqb b 255) _ _ _ c.all.ensures.ran (YieldsList-from_slice c.args.page.now cc) (λ x b q k. search rules)
+    ∙ all_blank c.args.page.now

@@ -2,4 +2,4 @@ use Rattle.chip_memory.proofs.Pages.{part_of}
 use Rattle.chip_memory.proofs.page.part.Goals as goal
 
 pub returns : goal.returns
-returns c = part_of _ _ _ _ c.lesser-start.ensures c.lesser-end.ensures
+returns c = part_of _ _ _ _ c.min-start.ensures c.min-end.ensures

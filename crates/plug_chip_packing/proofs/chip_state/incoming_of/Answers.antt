@@ -1,19 +1,9 @@
-use borrow.Author.Tests.{ne_eqb}
-use Rattle.plug_chip_packing.specs.Chip.{incoming_of}
+use Rattle.std.proofs.Common.{arith}
+use Rattle.plug_chip_packing.proofs.Chip.{incoming_1, incoming_2}
 use Rattle.plug_chip_packing.proofs.chip_state.incoming_of.Goals as goal
 
-pub returns-in-1 : goal.returns-in-1
-unfolding incoming_of
-returns-in-1 c = simp (c.in-1.is, c.command_of.ensures)
+pub returns-in_ok-command_of-in-1 : goal.returns-in_ok-command_of-in-1
+returns-in_ok-command_of-in-1 c = grind (arith, incoming_1)
 
-pub returns-in-2 : goal.returns-in-2
-unfolding incoming_of
-returns-in-2 c = simp (c.in-2.is, c.command_of-in-2.ensures)
-
-pub returns-in-3 : goal.returns-in-3
-unfolding incoming_of
-returns-in-3 c = rw (c.in-3.is, c.mode_of.ensures, c.target_at.ensures)
-
-pub returns-in_default : goal.returns-in_default
-unfolding incoming_of
-returns-in_default c = simp (ne_eqb _ _ c.in_default.in_default-own.rest.0.0.1, ne_eqb _ _ c.in_default.in_default-own.rest.0.1, ne_eqb _ _ c.in_default.in_default-own.rest.1)
+pub returns-in_ok-command_of-in-2 : goal.returns-in_ok-command_of-in-2
+returns-in_ok-command_of-in-2 c = grind (arith, incoming_2)

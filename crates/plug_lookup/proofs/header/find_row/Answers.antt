@@ -1,31 +1,18 @@
-use mathlib.Core.Path.{sym, ap, ◌∙◌}
+use mathlib.Core.Path.{refl, ap, ◌∙◌}
 use native.Mathlib.Omega.{arith}
-use native.Mathlib.Nat.{sub-zero}
-use lib.IntN.{ℤ}
-use mir.Syntax.{w32}
-use mir.Val.{to_z, of_z}
-use mir.ValLaws.{to_z-of_z}
-use Rattle.plug_lookup.specs.Header.{rows_of, row_from}
-use Rattle.plug_lookup.proofs.Rows.{row_found, row_goes_on, row_over}
+use borrow.Author.Tests.{tests}
+use Rattle.std.proofs.Common.{rules}
+use Rattle.std.proofs.lemmas.Iterator.{YieldsList-from_range}
+use Rattle.std.proofs.lemmas.Iterator.Search.{find_from_yields_List}
+use Rattle.base_types.specs.Outcome.{outcome_of}
+use Rattle.plug_lookup.specs.Header.{rows_of, covers}
+use Rattle.plug_lookup.proofs.Rows.{first_is_row}
 use Rattle.plug_lookup.proofs.header.find_row.Goals as goal
 
-pub loop-i-init : goal.loop-i-init
-loop-i-init c = let a = c.args in
-    (omega arith, c.rows-i-end.ensures, ap (λ k. row_from a.header.now (to_z w32 (of_z w32 a.latitude)) k 0) (sym (sub-zero (rows_of a.header.now))))
-
-pub returns-then-does_cover : goal.returns-then-does_cover
-returns-then-does_cover c = let h = c.args.header.now in
-    let l = c.loop-i in
-    let z = to_z-of_z w32 c.args.latitude c.ranges.latitude in
-    sym (ap (λ (v : ℤ). row_from h v (rows_of h) 0) (sym z) ∙ l.invariant.2 ∙ row_found h _ (rows_of h) l.i (omega arith) (sym c.does_cover.ensures ∙ c.if-does_cover.true))
-
-pub loop-i-preserved : goal.loop-i-preserved
-loop-i-preserved c = let h = c.args.header.now in
-    let l = c.loop-i in
-    (omega arith, l.invariant.1, l.invariant.2 ∙ row_goes_on h _ (rows_of h) l.i (omega arith) (sym c.does_cover.ensures ∙ c.if-does_cover.false))
-
 pub returns : goal.returns
-returns c = let h = c.args.header.now in
-    let l = c.loop-i in
-    let z = to_z-of_z w32 c.args.latitude c.ranges.latitude in
-    sym (ap (λ (v : ℤ). row_from h v (rows_of h) 0) (sym z) ∙ l.invariant.2 ∙ row_over h _ (rows_of h) l.i (omega arith))
+returns c =
+    ap outcome_of c.ok_or.ensures.value
+    ∙ first_is_row c.args.header.now c.args.latitude (rows_of c.args.header.now) 0 c.find.result
+    (find_from_yields_List (covers c.args.header.now c.args.latitude) _ _ c.find.result c.find.ensures.ran
+    (YieldsList-from_range 0 c.rows.result (rows_of c.args.header.now) refl (omega (arith, c.rows.ensures)))
+    (λ x b q k. search (rules, tests)))

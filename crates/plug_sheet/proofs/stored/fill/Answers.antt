@@ -1,12 +1,12 @@
-use Prim.Native.Nat.{ℕ}
-use mathlib.Core.Path.{ap, ◌∙◌}
-use mathlib.Core.List.{List}
+use mathlib.Core.Path.{◌∙◌}
 use Rattle.chip_memory.specs.Layout.{page_count}
-use Rattle.chip_memory.specs.Page.{copied}
-use Rattle.plug_sheet.proofs.Sheets.{sheet_filled}
+use Rattle.plug_sheet.proofs.Sheets.{header_length, parts_fill}
+use Rattle.plug_sheet.specs.Stored.{header_of, sheet_of}
 use Rattle.plug_sheet.proofs.stored.fill.Goals as goal
 
 pub returns : goal.returns
+unfolding sheet_of
 returns c = let a = c.args in
-    sheet_filled (page_count a.last) a.number.now a.image.now a.sheet.now c.copy.new.buffer c.requires.0 c.requires.1 (c.copy.ensures ∙ ap (λ (l : List
-    ℕ). copied l a.sheet.now) c.header-front.ensures) c.copy-2.ensures c.copy-3.ensures
+    let front = c.copy_from_slice.ensures.after ∙ c.header.ensures in
+    rw (front, c.copy_from_slice-2.ensures.after, c.copy_from_slice-3.ensures.after)
+    (parts_fill (header_of (page_count a.last)) a.number.now a.image.now a.sheet.now (header_length (page_count a.last)) c.told-number c.requires)

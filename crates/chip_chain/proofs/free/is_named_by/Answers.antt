@@ -1,8 +1,0 @@
-use borrow.Author.Tests.{eq-eqb, ne_eqb}
-use Rattle.chip_chain.proofs.free.is_named_by.Goals as goal
-
-pub returns-then-b-eq255 : goal.returns-then-b-eq255
-returns-then-b-eq255 c = simp (eq-eqb _ _ c.if-b-eq255.true)
-
-pub returns : goal.returns
-returns c = simp (ne_eqb _ _ c.if-b-eq255.false, c.named_by.ensures)

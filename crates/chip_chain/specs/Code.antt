@@ -1,2 +1,0 @@
--- Definitions that only mirror private code: no public contract is stated by them alone.
-pub mod Count

@@ -1,7 +1,0 @@
-use Rattle.chip_images.proofs.free.found.Goals as goal
-
-pub returns-in-At : goal.returns-in-At
-returns-in-At c = simp c.in-At.is
-
-pub returns-in-Nothing : goal.returns-in-Nothing
-returns-in-Nothing c = simp c.in-Nothing.is
