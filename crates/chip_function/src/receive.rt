@@ -1,5 +1,5 @@
 // Bits that come in.
-ghost use Rattle.std.specs.Prelude.{◌≡◌, ◌+◌, ◌*◌};
+ghost use Rattle.std.specs.Prelude.{◌≡◌};
 ghost use Rattle.chip_memory.specs.Memory.{bytes, pages};
 ghost use Rattle.chip_function.specs.Functions.{beginning, memory_command, addressed, started_at, received, receive_bit};
 

@@ -10,7 +10,7 @@ use base_types::stepped::Stepped;
 use bus_events::Next;
 
 // A master, by its calls: the state after a call, what the call tells, and the values that its end tells. Proofs see the state as Seen.
-pub trait Master: Copy {
+pub(crate) trait Master: Copy {
     type End: Copy;
 
     ghost Seen: { Type 0 };
@@ -37,7 +37,7 @@ fn are_replies(codes: &[u8]) -> bool
 }
 
 // The state and the replies, then the buffers. Refused: 2, 10.
-pub fn judge(in_range: bool, replies: &[u8], lengths: bool) -> Result<(), Refusal>
+pub(crate) fn judge(in_range: bool, replies: &[u8], lengths: bool) -> Result<(), Refusal>
     ensures { outcome_of result ≡ in_order true (in_range && are_replies replies.now) lengths }
 {
     refusal::in_order(true, in_range && are_replies(replies), lengths)
@@ -45,7 +45,7 @@ pub fn judge(in_range: bool, replies: &[u8], lengths: bool) -> Result<(), Refusa
 
 // The byte of an answer: its event, or FFh where it tells none.
 #[tactic(auto, unfolding(crate::specs::Calls::call_code))]
-fn code<E>(answer: &Result<Next<E>, Refusal>) -> u8
+pub(crate) fn code<E>(answer: &Result<Next<E>, Refusal>) -> u8
     ensures { (values : E → List ℕ) → result ≡ call_code (next_outcome values answer.now) }
 {
     match answer {
@@ -56,7 +56,7 @@ fn code<E>(answer: &Result<Next<E>, Refusal>) -> u8
 
 // The state after the calls, and the last answer; with no call, the reset to come.
 #[tactic(auto, unfolding(crate::specs::Calls::last_from))]
-pub fn feed<M: Master>(
+pub(crate) fn feed<M: Master>(
     start: M,
     replies: &[u8],
     events: &mut [u8],
@@ -79,7 +79,7 @@ pub fn feed<M: Master>(
 }
 
 // A run that has been judged. Refused: what the judgement refuses, with the same state.
-pub fn run<M: Master>(
+pub(crate) fn run<M: Master>(
     start: M,
     judged: Result<(), Refusal>,
     replies: &[u8],

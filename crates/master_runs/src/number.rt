@@ -1,9 +1,8 @@
 // The number read fed a list of replies.
-ghost use Rattle.std.specs.Prelude.{◌≡◌, [], map, length};
+ghost use Rattle.std.specs.Prelude.{◌≡◌};
 ghost use Rattle.base_types.specs.Outcome.{outcome_of};
 ghost use Rattle.master_number.specs.declared.NumberRead.{NumberRead};
 ghost use Rattle.master_number.specs.NumberRead.{answer_outcome, number_answer, number_state};
-ghost use Rattle.master_runs.specs.Calls.{call_code, last_from, to_come, fed_calls, fed_answers};
 ghost use Rattle.master_runs.specs.Number.{number_fed_judged, number_fed_outcome, number_fed_state, number_fed_events};
 
 use crate::calls;

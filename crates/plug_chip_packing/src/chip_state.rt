@@ -14,7 +14,7 @@ use base_types::write_mode::WriteMode;
 use chip_entries::event::{Stage, State};
 use chip_rom::{RomStage, RomStep};
 use chip_stage::stage::{Command, Incoming, MemoryStage, Outgoing};
-use plug_fields::{join, mode_byte, mode_of, padded, word, zeros};
+use plug_fields::{join, mode_byte, padded, some_mode, word, zeros};
 
 // ---- enums by a number, and the other way, where a number is that of one: no From, which the enums' own crates alone could have
 
@@ -186,7 +186,7 @@ fn incoming_of(b: &[u8; 24]) -> Option<Incoming>
         1 => zeros(b, 7, 12).then_some(Incoming::AddressLow(command_of(b[6])?)),
         2 => zeros(b, 8, 12).then_some(Incoming::AddressHigh(command_of(b[6])?, b[7])),
         3 => {
-            let mode = mode_of(b[6])?;
+            let mode = some_mode(b[6])?;
             let target = target_of(b[7], join(b[8], b[9]))?;
             zeros(b, 10, 12).then_some(Incoming::Data(mode, target))
         }
@@ -213,7 +213,7 @@ fn outgoing_of(b: &[u8; 24]) -> Option<Outgoing>
             zeros(b, 11, 12).then_some(Outgoing::WriteCrc(target, b[7]))
         }
         9 => {
-            let mode = mode_of(b[7])?;
+            let mode = some_mode(b[7])?;
             let target = target_of(b[8], join(b[9], b[10]))?;
             zeros(b, 11, 12).then_some(Outgoing::ReadBack(mode, target))
         }
@@ -239,7 +239,7 @@ fn stage_of(b: &[u8; 24]) -> Option<Stage>
             Some(Stage::Memory(MemoryStage::Send(outgoing_of(b)?, b[1], bits, crc)))
         }
         5 => {
-            let mode = mode_of(b[2])?;
+            let mode = some_mode(b[2])?;
             let target = target_of(b[3], join(b[4], b[5]))?;
             zeros(b, 6, 12).then_some(Stage::Memory(MemoryStage::Armed(mode, target, b[1])))
         }

@@ -45,16 +45,22 @@ pub fn mode_byte(mode: WriteMode) -> u8
     }
 }
 
-// The mode of a byte, if it is that of one.
+// The mode of a byte; one that is that of none counts as that of the quick mode.
 #[tactic(auto, unfolding(crate::specs::Fields::mode_of))]
-pub fn mode_of(number: u8) -> Option<WriteMode>
-    ensures { result ≡ then_some (nat_lt number 2) (mode_of number) }
+pub fn mode_of(number: u8) -> WriteMode
+    ensures { result ≡ mode_of number }
 {
     match number {
-        0 => Some(WriteMode::Ordinary),
-        1 => Some(WriteMode::Quick),
-        _ => None,
+        0 => WriteMode::Ordinary,
+        _ => WriteMode::Quick,
     }
+}
+
+// The mode of a byte, if it is that of one.
+pub fn some_mode(number: u8) -> Option<WriteMode>
+    ensures { result ≡ then_some (nat_lt number 2) (mode_of number) }
+{
+    (number < 2).then_some(mode_of(number))
 }
 
 // ---- arrays

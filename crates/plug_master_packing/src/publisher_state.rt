@@ -11,7 +11,7 @@ use base_types::address::Page;
 use base_types::refusal::Refusal;
 use master_plan::kind;
 use master_publisher::{Publisher, PublisherStop, Stage};
-use plug_fields::{join, mode_byte, mode_of, padded, word, zeros};
+use plug_fields::{join, mode_byte, padded, some_mode, word, zeros};
 
 #[tactic(auto, unfolding(crate::specs::Publisher::stage_bytes))]
 fn front_of(stage: Stage) -> [u8; 16]
@@ -72,7 +72,7 @@ fn state_of(bytes: &[u8]) -> Option<Publisher>
 {
     let b = <&[u8; 48]>::try_from(bytes).ok()?;
     let state = Publisher {
-        kind: kind::of_mode(mode_of(b[11])?),
+        kind: kind::of_mode(some_mode(b[11])?),
         stage: stage_of(b)?,
         superseded: Page(b[8]),
         target: Page(b[9]),

@@ -44,7 +44,6 @@ fn gap_blank(memory: &Memory<'_>, a: StatusAddress) -> bool
 }
 
 // An image holds FFh at every gap.
-#[tactic(auto, unfolding(crate::specs::Stored::gaps_blank))]
 fn gaps_blank(memory: &Memory<'_>) -> bool
     ensures { result ≡ gaps_blank (pages memory.now) (bytes memory.now) }
 {

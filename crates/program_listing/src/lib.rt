@@ -21,7 +21,8 @@ fn refusal(refusal: Refusal, text: &mut [u8; 1576]) -> usize
     list::write_refusal(refusal, text).unwrap_or(0)
 }
 
-// The list of a sheet, or the line of its refusal, into a buffer, and how many bytes it has. What is past it stays.
+// The list of a sheet, or the line of its refusal, into a buffer, and how many bytes it has: the part of the buffer in place of that number
+// would say nothing of what is past it, which stays.
 #[tactic(auto, unfolding(plug_sheet::specs::List::list_answer, plug_sheet::specs::List::list_buffer, crate::specs::Report::report_of, crate::specs::Report::report_buffer))]
 pub fn report(sheet: &[u8], text: &mut [u8; 1576]) -> usize
     ensures size { result ≡ length (report_of 64 sheet.now) }
@@ -48,6 +49,7 @@ fn read_some(input: &mut impl Read, bytes: &mut [u8]) -> io::Result<usize>
 }
 
 // The bytes of an input, until it ends or the buffer is full. The buffer has one byte more than a sheet, so that a longer input is refused.
+// The library's read_to_end needs a heap.
 pub fn read<'a>(input: &mut impl Read, buffer: &'a mut [u8; 2393]) -> io::Result<&'a [u8]>
     ensures { IfOk result (λ sheet. length sheet.now ≤ 2393) }
 {

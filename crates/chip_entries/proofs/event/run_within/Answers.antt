@@ -10,7 +10,7 @@ loop-i-preserved c = let l = c.loop-i in record {
   long = length-set l.replies l.i _ ∙ l.invariant.long;
   midway =
       midway 64 refl _ _ _ _ _ (omega arith) (omega (arith, l.invariant.long)) l.invariant.midway
-      _ _ _ _ c.from-e.ensures c.advance-state.ensures.image c.advance-state.ensures.stage (c.from.ensures ∙ ap one c.reply.ensures);
+      _ _ _ _ c.from-e.ensures c.advance-stage.ensures.image c.advance-stage.ensures.stage (c.from.ensures ∙ ap one c.reply.ensures);
 }
 
 pub returns-clause-chip : goal.returns-clause-chip
