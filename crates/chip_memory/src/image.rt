@@ -16,7 +16,8 @@ pub fn byte_at(image: &[u8], i: usize) -> u8
     image.get(i).copied().unwrap_or(0)
 }
 
-// An image with the chip that it is of, which is known by its last page. It is lent, so that a clause reads it through a reference.
+// An image with the chip that it is of, which is known by its last page. Methods and functions take it by reference: so a clause says
+// `memory.now`, where it would need `.entry` for a value that holds a borrow.
 #[derive(Clone, Copy)]
 pub struct Memory<'a> {
     pub image: &'a [u8],
@@ -24,7 +25,7 @@ pub struct Memory<'a> {
 }
 
 impl<'a> Memory<'a> {
-    // How many pages: at most 256, since a page's number is a byte.
+    // How many pages: at most 256, since a page's number is a byte, which the check sees where the page is taken apart.
     pub fn page_count(&self) -> usize
         ensures is { result ≡ pages self.now }
         ensures bound { result ≤ 256 }

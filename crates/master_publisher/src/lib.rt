@@ -207,7 +207,7 @@ pub fn start(
 
 // ---- a reply
 
-// What a reply leads to: on, with whether the bits so far agree; or what stops it.
+// The last bit of what is judged: on, with no bit so far that differs; or what stops it.
 #[tactic(auto, unfolding(crate::specs::Code::Turn::judged_last))]
 fn judge_last(good: bool, stop: PublisherStop) -> Result<bool, PublisherStop>
     ensures { result ≡ judged_last good stop }
@@ -215,6 +215,7 @@ fn judge_last(good: bool, stop: PublisherStop) -> Result<bool, PublisherStop>
     if good { Ok(true) } else { Err(stop) }
 }
 
+// What a reply leads to: on, with whether the bits so far agree; or what stops it.
 #[tactic(auto, unfolding(crate::specs::Code::Turn::judged_of, crate::specs::Code::Turn::judged_last))]
 fn judge(wanted: Wanted, good: bool, reply: bool) -> Result<bool, PublisherStop>
     ensures { result ≡ judged_of wanted good reply }

@@ -47,8 +47,7 @@ pub fn power_up(number: &[u8], state: &mut [u8]) -> Result<(), Refusal>
     chip_state::pack(event::power_up(answer::eight_of(number)), state)
 }
 
-// The same from the state that bytes hold, which then hold the state after the events. An image of another length draws 1, whatever these
-// bytes are.
+// Events on the state that bytes hold, which then hold the state after them. An image of another length draws 1, whatever these bytes are.
 #[tactic(auto, using(crate::proofs::Judged::packed_back), unfolding(crate::specs::Chip::events_answer, crate::specs::Chip::chip_left, crate::specs::Chip::events_state, crate::specs::Chip::events_image, crate::specs::Chip::events_replies, plug_chip_packing::specs::Chip::chip_judged, plug_chip_packing::specs::Chip::chip_unpacked))]
 pub fn events(
     state: &mut [u8],

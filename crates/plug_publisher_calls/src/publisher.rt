@@ -48,7 +48,7 @@ pub fn start_in(
     state: &mut [u8],
     answer: &[u8],
 ) -> Result<(), Refusal>
-    ensures code { outcome_of result ≡ publisher_started 64 kind image.now new.now page state.old answer.now }
+    ensures told { outcome_of result ≡ publisher_started 64 kind image.now new.now page state.old answer.now }
     ensures state { state.new ≡ publisher_start_state 64 kind image.now new.now page state.old answer.now }
 {
     refusal::in_order(

@@ -25,7 +25,7 @@ pub fn run(replies: &[u8], events: &mut [u8], answer: &[u8]) -> Result<Next<[u8;
 
 // The state before the first call.
 pub fn start(state: &mut [u8]) -> Result<(), Refusal>
-    ensures code { outcome_of result ≡ number_packed state.old }
+    ensures told { outcome_of result ≡ number_packed state.old }
     ensures state { state.new ≡ number_buffer number_begun state.old }
 {
     number_state::pack(master_number::start(), state)

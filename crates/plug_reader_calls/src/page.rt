@@ -35,7 +35,7 @@ pub fn run(
 
 // The state before the first call.
 pub fn start(page: u32, state: &mut [u8]) -> Result<(), Refusal>
-    ensures code { outcome_of result ≡ page_start_judged 64 page state.old }
+    ensures told { outcome_of result ≡ page_start_judged 64 page state.old }
     ensures state { state.new ≡ page_start_state 64 page state.old }
 {
     if state.len() != 48 {

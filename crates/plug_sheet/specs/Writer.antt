@@ -1,3 +1,4 @@
+-- What a text in a buffer gains when bytes are put after it.
 use Rattle.std.specs.Prelude.{ℕ, ◌+◌, ◌≡◌, List, length, min}
 use Rattle.plug_sheet.specs.declared.list.Text.{Text}
 use Rattle.plug_sheet.specs.Text.{put_at}

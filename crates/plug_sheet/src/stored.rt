@@ -47,6 +47,7 @@ fn gap_blank(memory: &Memory<'_>, a: StatusAddress) -> bool
 fn gaps_blank(memory: &Memory<'_>) -> bool
     ensures { result ≡ gaps_blank (pages memory.now) (bytes memory.now) }
 {
+    // Taken apart, so that the check sees a byte.
     let Page(last) = memory.last;
     (0..layout::status_size(Page(last))).all(|a| gap_blank(memory, StatusAddress(a)))
 }
