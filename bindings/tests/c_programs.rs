@@ -56,6 +56,18 @@ fn the_header_compiles_alone() {
     }
 }
 
+/// Who links the library without a C library has to bring these two.
+#[test]
+fn the_library_needs_memcpy_and_memset_alone() {
+    let archive = top().join("crates/plug_capi/out/libplug_capi.a");
+    let names = run(Command::new("nm").arg("-u").arg(archive));
+    let needed: Vec<&str> = names
+        .lines()
+        .filter_map(|line| line.trim().strip_prefix("U "))
+        .collect();
+    assert_eq!(needed, ["memcpy", "memset"]);
+}
+
 #[test]
 fn the_example_of_the_document() {
     let document = read("docs/C-INTERFACE.md");

@@ -1,14 +1,24 @@
 -- Values, and how large they are.
-use Prim.Native.Nat.{◌≤◌}
-use mathlib.Core.Bool.{true}
-use mathlib.Core.Path.{◌≡◌}
+use Prim.Native.Nat.{ℕ, suc, ◌+◌, ◌-◌, ◌≤◌}
+use mathlib.Core.Bool.{Bool, true, false, cond}
+use mathlib.Core.Path.{◌≡◌, refl}
 use native.Mathlib.Omega.{arith}
-use lib.IntN.{ℤ, ◌-ℤ◌}
+use lib.Dec.{ltb}
+use lib.IntN.{ℤ, pos, negsuc, sub_ℕ, ◌-ℤ◌}
 use lib.Signed.{mag}
 use mir.Syntax.{w32}
 use mir.Val.{SFits}
+use borrow.Author.Tests.{ltb-true, ltb-false}
 use Rattle.std.proofs.lemmas.Int.{ints}
 use Rattle.base_tenths.specs.Tenths.{signed_of, low_bits, is_value}
+
+-- a difference of two naturals, by which is less
+sub_bound : (a b : ℕ) (t : Bool) → ltb a b ≡ t → (k : ℕ) → (b ≤ suc (a + k)) → (a ≤ b + k) → mag (cond t (negsuc (b - suc a)) (pos (a - b))) ≤ k
+sub_bound a b true e k h g = omega (arith, ltb-true a b e)
+sub_bound a b false e k h g = omega (arith, ltb-false a b e)
+
+pub mag_sub : (a b k : ℕ) → b ≤ suc (a + k) → a ≤ b + k → mag (sub_ℕ a b) ≤ k
+mag_sub a b k h g = sub_bound a b (ltb a b) refl k h g
 
 -- a value is a number of which mag, n both for n and for -(n + 1), is at most 1799
 pub value_mag : (v : ℤ) → is_value v ≡ true → mag v ≤ 1799

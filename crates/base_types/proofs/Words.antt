@@ -42,3 +42,6 @@ bits_then zero n x = ap₂ bits_of (zero-add n) (sym (div-one x))
 bits_then (suc m) n x =
     ap (λ (k : ℕ). bits_of k x) (suc-add m n)
     ∙ ap {B = List Bool} (λ l. odd x ∷ l) (bits_then m n (x / 2) ∙ ap (λ (z : ℕ). bits_of m (x / 2) ++ bits_of n z) (half x m))
+
+pub word_bits : (x : ℕ) → bits_of 16 x ≡ bits_of 8 (x % 256) ++ bits_of 8 (x / 256)
+word_bits x = bits_then 8 8 x ∙ ap (λ (l : List Bool). l ++ bits_of 8 (x / 256)) (sym (bits_low 8 x))

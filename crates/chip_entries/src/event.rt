@@ -2,7 +2,6 @@
 ghost use Rattle.std.specs.Prelude.{◌≡◌, true, ◌&&◌, length};
 ghost use Rattle.base_types.specs.Outcome.{outcome_of, in_order};
 ghost use Rattle.chip_memory.specs.Layout.{page_count, is_image};
-ghost use Rattle.chip_memory.specs.Memory.{bytes, pages};
 ghost use Rattle.chip_entries.specs.Run.{are_events, reply_bytes, events_at, run, run_answer, ran_chip, ran_replies, line_of};
 ghost use Rattle.chip_entries.specs.Event.{power_up, after_rom, stage_slot, stage_bit, stage_pulse, pulse_image_of, chip_in_range, reply_of, image_after, stage_after};
 ghost use Rattle.chip_entries.specs.Event.{event_answer, event_state, event_image};
@@ -13,7 +12,6 @@ use base_types::refusal::Refusal;
 use base_types::stepped::Stepped;
 use bus_events::Event;
 use chip_function::{function, ranges};
-use chip_memory::image::Memory;
 use chip_memory::layout;
 use chip_rom::{RomOutcome, RomStage};
 use chip_stage::stage;
@@ -71,12 +69,12 @@ fn in_range(last: Page, stage: Stage) -> bool
 // take 1.8 times as long.
 impl Stage {
     #[tactic(auto, unfolding(crate::specs::Event::stage_slot))]
-    fn slot(self, number: [u8; 8], memory: &Memory, bit: bool) -> Stage
-        ensures { result ≡ stage_slot (pages memory.now) self bit number (bytes memory.now) }
+    fn slot(self, number: [u8; 8], last: Page, bit: bool, image: &[u8]) -> Stage
+        ensures { result ≡ stage_slot (page_count last) self bit number image.now }
     {
         match self {
             Stage::Rom(r) => after_rom(chip_rom::slot(r, bit, number)),
-            Stage::Memory(m) => Stage::Memory(function::slot(memory, m, bit)),
+            Stage::Memory(m) => Stage::Memory(function::slot(last, m, bit, image)),
         }
     }
 
@@ -108,7 +106,11 @@ impl Stage {
     {
         match event {
             Event::Reset => false,
-            Event::Slot(bit) => bit && self.bit(number),
+            // The chip's bit first, and no branch on the master's, which nobody can foretell.
+            Event::Slot(bit) => {
+                let own = self.bit(number);
+                bit && own
+            }
             Event::Pulse | Event::PowerLoss => true,
         }
     }
@@ -120,7 +122,7 @@ impl Stage {
     {
         match event {
             Event::Reset => Stage::Rom(RomStage::Command(0, 0)),
-            Event::Slot(bit) => self.slot(number, &Memory { image, last }, bit),
+            Event::Slot(bit) => self.slot(number, last, bit, image),
             Event::Pulse => self.pulse(last, image),
             Event::PowerLoss => Stage::Memory(MemoryStage::Silent),
         }

@@ -1,26 +1,24 @@
 // A slot and a pulse.
 ghost use Rattle.std.specs.Prelude.{◌≡◌};
 ghost use Rattle.chip_memory.specs.Layout.{page_count};
-ghost use Rattle.chip_memory.specs.Memory.{bytes, pages};
 ghost use Rattle.chip_function.specs.Functions.{memory_slot, memory_bit, pulse_image, pulse_stage};
 
 use crate::{receive, send};
 use base_types::address::Page;
 use base_types::bits;
-use chip_memory::image::Memory;
 use chip_stage::stage::MemoryStage;
 use chip_stage::write;
 
 // One slot. One on an armed chip silences it.
 #[tactic(auto, unfolding(crate::specs::Functions::memory_slot))]
-pub fn slot(memory: &Memory, stage: MemoryStage, bit: bool) -> MemoryStage
-    ensures { result ≡ memory_slot (pages memory.now) stage bit (bytes memory.now) }
+pub fn slot(last: Page, stage: MemoryStage, bit: bool, image: &[u8]) -> MemoryStage
+    ensures { result ≡ memory_slot (page_count last) stage bit image.now }
 {
     match stage {
         MemoryStage::Receive(i, k, register, crc) => {
-            receive::bit_in(memory, i, k, bits::shift_in(register, bit), crc)
+            receive::bit_in(last, i, k, bits::shift_in(register, bit), crc, image)
         }
-        MemoryStage::Send(o, left, v, crc) => send::bit_out(memory, o, left, v, crc),
+        MemoryStage::Send(o, left, v, crc) => send::bit_out(last, o, left, v, crc, image),
         MemoryStage::Silent | MemoryStage::Armed(..) => MemoryStage::Silent,
     }
 }

@@ -64,7 +64,7 @@ fn receive_in_range(last: Page, i: Incoming, k: u8) -> bool
 fn send_in_range(last: Page, o: Outgoing, left: u8) -> bool
     ensures { result ≡ send_in_range (page_count last) o left }
 {
-    (1..=width(o)).contains(&left) && outgoing_in_range(last, o)
+    1 <= left && left <= width(o) && outgoing_in_range(last, o)
 }
 
 #[tactic(auto, unfolding(crate::specs::Ranges::memory_in_range))]

@@ -1,10 +1,11 @@
 // Bits that come in.
 ghost use Rattle.std.specs.Prelude.{◌≡◌};
+ghost use Rattle.chip_memory.specs.Layout.{page_count};
 ghost use Rattle.chip_memory.specs.Memory.{bytes, pages};
 ghost use Rattle.chip_function.specs.Functions.{beginning, memory_command, addressed, started_at, received, receive_bit};
 
 use base_crc::crc16;
-use base_types::address::Space;
+use base_types::address::{Page, Space};
 use base_types::write_mode::WriteMode;
 use chip_memory::image::Memory;
 use chip_stage::stage::{Command, Incoming, MemoryStage};
@@ -75,14 +76,15 @@ fn byte_in(memory: &Memory, i: Incoming, byte: u8, crc: u16) -> MemoryStage
     }
 }
 
-// One bit more, after k of them; the register now holds v.
+// One bit more, after k of them; the register now holds v. The image and its chip are put together only for a whole byte: a Memory made at
+// each bit made writes dearer.
 #[tactic(auto, unfolding(crate::specs::Functions::receive_bit))]
-pub fn bit_in(memory: &Memory, i: Incoming, k: u8, v: u8, crc: u16) -> MemoryStage
-    ensures { result ≡ receive_bit (pages memory.now) i k v crc (bytes memory.now) }
+pub fn bit_in(last: Page, i: Incoming, k: u8, v: u8, crc: u16, image: &[u8]) -> MemoryStage
+    ensures { result ≡ receive_bit (page_count last) i k v crc image.now }
 {
     if k < 7 {
         MemoryStage::Receive(i, k + 1, v, crc)
     } else {
-        byte_in(memory, i, v, crc)
+        byte_in(&Memory { image, last }, i, v, crc)
     }
 }

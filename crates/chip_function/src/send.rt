@@ -1,8 +1,10 @@
 // Bits that go out.
 ghost use Rattle.std.specs.Prelude.{◌≡◌};
+ghost use Rattle.chip_memory.specs.Layout.{page_count};
 ghost use Rattle.chip_memory.specs.Memory.{bytes, pages};
 ghost use Rattle.chip_function.specs.Functions.{sent, send_bit};
 
+use base_types::address::Page;
 use base_types::write_mode::WriteMode;
 use chip_memory::image::Memory;
 use chip_stage::stage::{MemoryStage, Outgoing};
@@ -27,14 +29,14 @@ fn all_out(memory: &Memory, o: Outgoing, crc: u16) -> MemoryStage
     }
 }
 
-// One bit of v goes out, of which so many were left.
+// One bit of v goes out, of which so many were left. As in receive::bit_in, a Memory is made for the last one alone.
 #[tactic(auto, unfolding(crate::specs::Functions::send_bit))]
-pub fn bit_out(memory: &Memory, o: Outgoing, left: u8, v: u16, crc: u16) -> MemoryStage
-    ensures { result ≡ send_bit (pages memory.now) o left v crc (bytes memory.now) }
+pub fn bit_out(last: Page, o: Outgoing, left: u8, v: u16, crc: u16, image: &[u8]) -> MemoryStage
+    ensures { result ≡ send_bit (page_count last) o left v crc image.now }
 {
     if 1 < left {
         MemoryStage::Send(o, left - 1, v >> 1, crc)
     } else {
-        all_out(memory, o, crc)
+        all_out(&Memory { image, last }, o, crc)
     }
 }

@@ -2,12 +2,13 @@
 use Prim.Native.Nat.{ℕ, zero, suc, ◌+◌, ◌-◌, ◌*◌, ◌≤◌, ◌<◌, min}
 use mathlib.Core.Path.{◌≡◌, refl, sym, ap, ◌∙◌}
 use mathlib.Core.Bool.{Bool, ◌&&◌}
-use mathlib.Core.List.{List, [], ◌∷◌, ◌++◌}
+use mathlib.Core.List.{List, [], ◌∷◌}
+use native.Mathlib.Nat.{not-suc-le-zero, le_of_suc-le-suc}
 use native.Mathlib.Decide.{dec_lt}
 use native.Mathlib.Omega.{arith}
 use lib.Dec.{eqb}
 use Rattle.std.specs.List.{list_all}
-use lib.ListN.{length, take, drop, length-take, length-drop, drop_of_length-le}
+use lib.ListN.{length, get_or, set, take, drop, length-take, length-drop, drop_of_length-le}
 use lib.Seq.{take_all, take-length, take-nil}
 use Rattle.chip_memory.specs.Image.{page_bytes}
 use Rattle.chip_memory.specs.Layout.{image_size}
@@ -57,15 +58,25 @@ copied_length [] old = refl
 copied_length (b ∷ l) [] = refl
 copied_length (b ∷ l) (o ∷ old) = ap suc (copied_length l old)
 
--- the bytes up to the end of the shorter one, and the rest of the buffer
-pub copied_parts : (l old : List ℕ) (e : ℕ) → e ≡ min (length l) (length old) → take e l ++ drop e old ≡ copied l old
+pub copied_none : (l old : List ℕ) → old ≡ copied (take 0 l) old
 unfolding copied
-copied_parts [] old zero h = refl
-copied_parts [] old (suc e) h = absurd (omega arith)
-copied_parts (b ∷ l) [] zero h = refl
-copied_parts (b ∷ l) [] (suc e) h = absurd (omega arith)
-copied_parts (b ∷ l) (o ∷ old) zero h = absurd (omega arith)
-copied_parts (b ∷ l) (o ∷ old) (suc e) h = ap (λ (x : List ℕ). b ∷ x) (copied_parts l old e (omega arith))
+copied_none [] old = refl
+copied_none (b ∷ l) old = refl
+
+pub copied_next : (l old : List ℕ) (i : ℕ) → i < length l → i < length old → set (copied (take i l) old) i (get_or l i 0) ≡ copied (take (suc i) l) old
+unfolding copied
+copied_next [] old i lt lo = absurd (not-suc-le-zero lt)
+copied_next (b ∷ l) [] i lt lo = absurd (not-suc-le-zero lo)
+copied_next (b ∷ l) (o ∷ old) zero lt lo = ap (λ (x : List ℕ). b ∷ x) (copied_none l old)
+copied_next (b ∷ l) (o ∷ old) (suc i) lt lo = ap (λ (x : List ℕ). b ∷ x) (copied_next l old i (le_of_suc-le-suc lt) (le_of_suc-le-suc lo))
+
+pub copied_all : (l old : List ℕ) (e : ℕ) → e ≡ min (length l) (length old) → copied (take e l) old ≡ copied l old
+unfolding copied
+copied_all [] old e h = ap (λ (x : List ℕ). copied x old) (take-nil e)
+copied_all (b ∷ l) [] zero h = refl
+copied_all (b ∷ l) [] (suc e) h = refl
+copied_all (b ∷ l) (o ∷ old) zero h = absurd (omega arith)
+copied_all (b ∷ l) (o ∷ old) (suc e) h = ap (λ (x : List ℕ). b ∷ x) (copied_all l old e (omega arith))
 
 -- over a buffer of the same length a copy is the page
 pub copied_same : (l old : List ℕ) → length l ≡ length old → copied l old ≡ l

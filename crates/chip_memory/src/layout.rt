@@ -86,7 +86,7 @@ pub fn status_index(last: Page, a: StatusAddress) -> usize
 fn within(first: u16, size: u16, a: u16) -> bool
     ensures { result ≡ is_within first size a }
 {
-    first <= a && a - first < size
+    a.checked_sub(first).is_some_and(|past| past < size)
 }
 
 // An address lies in a field of bits.

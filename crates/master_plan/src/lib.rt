@@ -178,13 +178,13 @@ impl Write {
     fn head_byte(self, j: u16) -> u8
         ensures { result ≡ head_byte self.kind self.target j }
     {
+        let first = kind::selecting(self.kind.selection);
         let head = self.head();
-        kind::selecting(self.kind.selection)
-            .iter()
-            .chain(&head)
-            .copied()
-            .nth(usize::from(j))
-            .unwrap_or(0)
+        let j = usize::from(j);
+        match j.checked_sub(first.len()) {
+            None => first[j],
+            Some(k) => head.get(k).copied().unwrap_or(0),
+        }
     }
 
     #[tactic(auto, unfolding(crate::specs::Code::At::head_at))]

@@ -48,7 +48,7 @@ pub fn power_up(number: &[u8], state: &mut [u8]) -> Result<(), Refusal>
 }
 
 // Events on the state that bytes hold, which then hold the state after them. An image of another length draws 1, whatever these bytes are.
-#[tactic(auto, using(crate::proofs::Judged::packed_back), unfolding(crate::specs::Chip::events_answer, crate::specs::Chip::chip_left, crate::specs::Chip::events_state, crate::specs::Chip::events_image, crate::specs::Chip::events_replies, plug_chip_packing::specs::Chip::chip_judged, plug_chip_packing::specs::Chip::chip_unpacked))]
+#[tactic(auto, using(crate::proofs::Judged::packed_back), unfolding(crate::specs::Chip::events_answer, crate::specs::Chip::chip_left, crate::specs::Chip::events_state, crate::specs::Chip::events_image, crate::specs::Chip::events_replies, plug_chip_packing::specs::Chip::chip_judged))]
 pub fn events(
     state: &mut [u8],
     events: &[u8],
@@ -63,8 +63,9 @@ pub fn events(
     if !layout::is_image(image, layout::DS2505) {
         return Err(Refusal::ImageLength);
     }
-    let before = chip_state::unpack(state)?;
-    let ran = event::run(before, events, image, replies);
+    let held = chip_state::unpack(state);
+    held.answer?;
+    let ran = event::run(held.state, events, image, replies);
     ran.answer?;
     chip_state::pack(ran.state, state)
 }

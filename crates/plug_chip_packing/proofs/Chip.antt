@@ -2,12 +2,10 @@
 use Prim.Native.Nat.{ℕ, zero, suc, ◌≤◌, ◌<◌}
 use mathlib.Core.Path.{◌≡◌, refl}
 use mathlib.Core.Logic.{◌≢◌}
-use mathlib.Core.Bool.{true, ◌&&◌}
+use mathlib.Core.Bool.{true, false, ◌&&◌}
 use mathlib.Core.List.{List, [], ◌∷◌, ◌++◌}
 use native.Mathlib.Omega.{arith}
 use lib.Dec.{eqb, ltb}
-use Rattle.std.specs.Bool.{then_some}
-use Rattle.std.proofs.Common.{None}
 use lib.ListN.{length, replicate, get_or}
 use borrow.Author.Tests.{le-ltb, ne_eqb}
 use Rattle.base_types.specs.declared.address.Space.TheVariants.{Data as DataSpace, Status as StatusSpace}
@@ -28,9 +26,9 @@ use Rattle.chip_stage.specs.declared.stage.MemoryStage.TheVariants.{Silent, Rece
 use Rattle.chip_entries.specs.declared.event.Stage.{Stage}
 use Rattle.chip_entries.specs.declared.event.Stage.TheVariants.{Rom, Memory}
 use Rattle.chip_entries.specs.declared.event.State.{State}
-use Rattle.plug_fields.specs.Fields.{word, joined, padded, same, rest_at, is_copy, mode_of}
+use Rattle.plug_fields.specs.Fields.{word, joined, padded, same, rest_at, is_copy}
 use Rattle.plug_chip_packing.specs.Chip.{write_tag, command_tag, command_of, step_tag, rom_step_of, target_tag, target_address, target_of, incoming_bytes}
-use Rattle.plug_chip_packing.specs.Chip.{incoming_of, outgoing_bytes, addressed_of, outgoing_of, rom_bytes, memory_bytes, chip_stage_bytes, word_at, memory_of, chip_stage_of, chip_at, chip_none}
+use Rattle.plug_chip_packing.specs.Chip.{incoming_of, outgoing_bytes, addressed_of, outgoing_of, rom_bytes, memory_bytes, chip_stage_bytes, memory_of, chip_stage_of, chip_at, chip_none}
 use Rattle.plug_chip_packing.specs.Chip.{chip_bytes, chip_state_of, is_chip_state, ChipPacking}
 use Rattle.plug_fields.proofs.Laws.{past, mode_back, halves, same_tag, same_not, same_own, same_one, same_two, mode_good, low_joined, high_joined, Laws, laws}
 use Rattle.plug_chip_packing.specs.Code.Chip.{incoming_own, outgoing_own, chip_stage_own}
@@ -137,79 +135,67 @@ target_back (Status a) = refl
 abbrev at : List ℕ → ℕ → ℕ
 at b i = get_or b i 0
 
-pub incoming_0 : (b : List ℕ) → at b 5 ≡ 0 → then_some (incoming_own b) (incoming_of b) ≡ then_some (same 6 (replicate 6 0) b) CommandByte
+pub incoming_0 : (b : List ℕ) → at b 5 ≡ 0 → incoming_own b ≡ same 6 (replicate 6 0) b
 unfolding incoming_own incoming_of incoming_bytes
 incoming_0 b e = rw (e, same_tag b 5 e)
 
-pub incoming_1 : (b : List ℕ) → at b 5 ≡ 1 → then_some (incoming_own b) (incoming_of b)
-    ≡ then_some (ltb (at b 6) 7 && same 7 (replicate 5 0) b) (AddressLow (command_of (at b 6)))
+pub incoming_1 : (b : List ℕ) → at b 5 ≡ 1 → incoming_own b ≡ (ltb (at b 6) 7 && same 7 (replicate 5 0) b)
 unfolding incoming_own incoming_of incoming_bytes
 incoming_1 b e = rw (e, same_tag b 5 e, same_one b 6, command_good)
 
-pub incoming_2 : (b : List ℕ) → at b 5 ≡ 2 → then_some (incoming_own b) (incoming_of b)
-    ≡ then_some (ltb (at b 6) 7 && same 8 (replicate 4 0) b) (AddressHigh (command_of (at b 6)) (at b 7))
+pub incoming_2 : (b : List ℕ) → at b 5 ≡ 2 → incoming_own b ≡ (ltb (at b 6) 7 && same 8 (replicate 4 0) b)
 unfolding incoming_own incoming_of incoming_bytes
 incoming_2 b e = rw (e, same_tag b 5 e, same_one b 6, command_good, same_own b 7)
 
-pub incoming_3 : (b : List ℕ) → at b 5 ≡ 3 → at b 8 < 256 → then_some (incoming_own b) (incoming_of b)
-    ≡ then_some ((ltb (at b 6) 2 && ltb (at b 7) 2) && same 10 (replicate 2 0) b) (DataByte (mode_of (at b 6)) (target_of (at b 7) (word_at b 8)))
+pub incoming_3 : (b : List ℕ) → at b 5 ≡ 3 → at b 8 < 256 → incoming_own b ≡ ((ltb (at b 6) 2 && ltb (at b 7) 2) && same 10 (replicate 2 0) b)
 unfolding incoming_own incoming_of incoming_bytes
 incoming_3 b e h8 = rw (e, same_tag b 5 e, same_two b 6, mode_good, target_good, target_at_lem, low_joined) (rw (same_own b 8, high_joined, same_own b 9))
 
-pub incoming_none : (b : List ℕ) → at b 5 ≢ 0 → at b 5 ≢ 1 → at b 5 ≢ 2 → at b 5 ≢ 3 → then_some (incoming_own b) (incoming_of b) ≡ None
+pub incoming_none : (b : List ℕ) → at b 5 ≢ 0 → at b 5 ≢ 1 → at b 5 ≢ 2 → at b 5 ≢ 3 → incoming_own b ≡ false
 unfolding incoming_own incoming_of incoming_bytes
 incoming_none b d0 d1 d2 d3 = rw (ne_eqb _ _ d1, ne_eqb _ _ d2, ne_eqb _ _ d3, same_not b 5 d0)
 
 pub ruleset incoming_rows = (incoming_0, incoming_1, incoming_2, incoming_3, incoming_none)
 
-pub outgoing_0 : (b : List ℕ) → at b 6 ≡ 0 → at b 7 < 256 → then_some (outgoing_own b) (outgoing_of b)
-    ≡ then_some (same 9 (replicate 3 0) b) (MemoryData (record { 0 = word_at b 7 }))
+pub outgoing_0 : (b : List ℕ) → at b 6 ≡ 0 → at b 7 < 256 → outgoing_own b ≡ same 9 (replicate 3 0) b
 unfolding outgoing_own outgoing_of outgoing_bytes addressed_of
 outgoing_0 b e h7 = rw (e, tagged b e h7)
 
-pub outgoing_1 : (b : List ℕ) → at b 6 ≡ 1 → then_some (outgoing_own b) (outgoing_of b) ≡ then_some (same 7 (replicate 5 0) b) MemoryCrc
+pub outgoing_1 : (b : List ℕ) → at b 6 ≡ 1 → outgoing_own b ≡ same 7 (replicate 5 0) b
 unfolding outgoing_own outgoing_of outgoing_bytes addressed_of
 outgoing_1 b e = rw (e, same_tag b 6 e)
 
-pub outgoing_2 : (b : List ℕ) → at b 6 ≡ 2 → at b 7 < 256 → then_some (outgoing_own b) (outgoing_of b)
-    ≡ then_some (same 9 (replicate 3 0) b) (StatusData (record { 0 = word_at b 7 }))
+pub outgoing_2 : (b : List ℕ) → at b 6 ≡ 2 → at b 7 < 256 → outgoing_own b ≡ same 9 (replicate 3 0) b
 unfolding outgoing_own outgoing_of outgoing_bytes addressed_of
 outgoing_2 b e h7 = rw (e, tagged b e h7)
 
-pub outgoing_3 : (b : List ℕ) → at b 6 ≡ 3 → at b 7 < 256 → then_some (outgoing_own b) (outgoing_of b)
-    ≡ then_some (same 9 (replicate 3 0) b) (StatusCrc (record { 0 = word_at b 7 }))
+pub outgoing_3 : (b : List ℕ) → at b 6 ≡ 3 → at b 7 < 256 → outgoing_own b ≡ same 9 (replicate 3 0) b
 unfolding outgoing_own outgoing_of outgoing_bytes addressed_of
 outgoing_3 b e h7 = rw (e, tagged b e h7)
 
-pub outgoing_4 : (b : List ℕ) → at b 6 ≡ 4 → at b 7 < 256 → then_some (outgoing_own b) (outgoing_of b)
-    ≡ then_some (same 9 (replicate 3 0) b) (RedirectionByte (record { 0 = word_at b 7 }))
+pub outgoing_4 : (b : List ℕ) → at b 6 ≡ 4 → at b 7 < 256 → outgoing_own b ≡ same 9 (replicate 3 0) b
 unfolding outgoing_own outgoing_of outgoing_bytes addressed_of
 outgoing_4 b e h7 = rw (e, tagged b e h7)
 
-pub outgoing_5 : (b : List ℕ) → at b 6 ≡ 5 → at b 7 < 256 → then_some (outgoing_own b) (outgoing_of b)
-    ≡ then_some (same 9 (replicate 3 0) b) (RedirectionCrc (record { 0 = word_at b 7 }))
+pub outgoing_5 : (b : List ℕ) → at b 6 ≡ 5 → at b 7 < 256 → outgoing_own b ≡ same 9 (replicate 3 0) b
 unfolding outgoing_own outgoing_of outgoing_bytes addressed_of
 outgoing_5 b e h7 = rw (e, tagged b e h7)
 
-pub outgoing_6 : (b : List ℕ) → at b 6 ≡ 6 → at b 7 < 256 → then_some (outgoing_own b) (outgoing_of b)
-    ≡ then_some (same 9 (replicate 3 0) b) (PageData (record { 0 = word_at b 7 }))
+pub outgoing_6 : (b : List ℕ) → at b 6 ≡ 6 → at b 7 < 256 → outgoing_own b ≡ same 9 (replicate 3 0) b
 unfolding outgoing_own outgoing_of outgoing_bytes addressed_of
 outgoing_6 b e h7 = rw (e, tagged b e h7)
 
-pub outgoing_7 : (b : List ℕ) → at b 6 ≡ 7 → at b 7 < 256 → then_some (outgoing_own b) (outgoing_of b)
-    ≡ then_some (same 9 (replicate 3 0) b) (PageCrc (record { 0 = word_at b 7 }))
+pub outgoing_7 : (b : List ℕ) → at b 6 ≡ 7 → at b 7 < 256 → outgoing_own b ≡ same 9 (replicate 3 0) b
 unfolding outgoing_own outgoing_of outgoing_bytes addressed_of
 outgoing_7 b e h7 = rw (e, tagged b e h7)
 
-pub outgoing_8 : (b : List ℕ) → at b 6 ≡ 8 → at b 9 < 256 → then_some (outgoing_own b) (outgoing_of b)
-    ≡ then_some (ltb (at b 8) 2 && same 11 (replicate 1 0) b) (WriteCrc (target_of (at b 8) (word_at b 9)) (at b 7))
+pub outgoing_8 : (b : List ℕ) → at b 6 ≡ 8 → at b 9 < 256 → outgoing_own b ≡ (ltb (at b 8) 2 && same 11 (replicate 1 0) b)
 unfolding outgoing_own outgoing_of outgoing_bytes addressed_of
 outgoing_8 b e h9 =
     rw (e, same_tag b 6 e, same_own b 7, same_one b 8, target_good, target_at_lem, low_joined)
     (rw (same_own b 9, high_joined, same_own b 10))
 
-pub outgoing_9 : (b : List ℕ) → at b 6 ≡ 9 → at b 9 < 256 → then_some (outgoing_own b) (outgoing_of b)
-    ≡ then_some ((ltb (at b 7) 2 && ltb (at b 8) 2) && same 11 (replicate 1 0) b) (ReadBack (mode_of (at b 7)) (target_of (at b 8) (word_at b 9)))
+pub outgoing_9 : (b : List ℕ) → at b 6 ≡ 9 → at b 9 < 256 → outgoing_own b ≡ ((ltb (at b 7) 2 && ltb (at b 8) 2) && same 11 (replicate 1 0) b)
 unfolding outgoing_own outgoing_of outgoing_bytes addressed_of
 outgoing_9 b e h9 =
     rw (e, same_tag b 6 e, same_two b 7, mode_good, target_good, target_at_lem, low_joined)
@@ -217,48 +203,43 @@ outgoing_9 b e h9 =
 
 pub outgoing_none : (b : List ℕ) → at b 6 ≢ 0 → at b 6 ≢ 1 → at b 6 ≢ 2 → at b 6 ≢ 3 → at b 6 ≢ 4 → at b 6 ≢ 5
     → at b 6 ≢ 6 → at b 6 ≢ 7 → at b 6 ≢ 8 → at b 6 ≢ 9
-    → then_some (outgoing_own b) (outgoing_of b) ≡ None
+    → outgoing_own b ≡ false
 unfolding outgoing_own outgoing_of outgoing_bytes addressed_of
 outgoing_none b d0 d1 d2 d3 d4 d5 d6 d7 d8 d9 = rw (ne_eqb _ _ d8, ne_eqb _ _ d9, ne_eqb _ _ d0, ne_eqb _ _ d2) (rw (ne_eqb _ _ d3, ne_eqb _ _ d4, ne_eqb _ _ d5, ne_eqb _ _ d6, ne_eqb _ _ d7, same_not b 6 d1))
 
 pub ruleset outgoing_rows =
     (outgoing_0, outgoing_1, outgoing_2, outgoing_3, outgoing_4, outgoing_5, outgoing_6, outgoing_7, outgoing_8, outgoing_9, outgoing_none)
 
-pub stage_0 : (b : List ℕ) → at b 0 ≡ 0 → then_some (chip_stage_own b) (chip_stage_of b) ≡ then_some (same 1 (replicate 11 0) b) (Memory Silent)
+pub stage_0 : (b : List ℕ) → at b 0 ≡ 0 → chip_stage_own b ≡ same 1 (replicate 11 0) b
 unfolding chip_stage_own chip_stage_of memory_of chip_stage_bytes rom_bytes memory_bytes incoming_own outgoing_own
 stage_0 b e = rw (e, same_tag b 0 e)
 
-pub stage_1 : (b : List ℕ) → at b 0 ≡ 1 → then_some (chip_stage_own b) (chip_stage_of b)
-    ≡ then_some (same 3 (replicate 9 0) b) (Rom (RomCommand (at b 1) (at b 2)))
+pub stage_1 : (b : List ℕ) → at b 0 ≡ 1 → chip_stage_own b ≡ same 3 (replicate 9 0) b
 unfolding chip_stage_own chip_stage_of memory_of chip_stage_bytes rom_bytes memory_bytes incoming_own outgoing_own
 stage_1 b e = rw (e, same_tag b 0 e, same_own b 1, same_own b 2)
 
-pub stage_2 : (b : List ℕ) → at b 0 ≡ 2 → then_some (chip_stage_own b) (chip_stage_of b)
-    ≡ then_some (ltb (at b 1) 5 && same 3 (replicate 9 0) b) (Rom (Number (rom_step_of (at b 1)) (at b 2)))
+pub stage_2 : (b : List ℕ) → at b 0 ≡ 2 → chip_stage_own b ≡ (ltb (at b 1) 5 && same 3 (replicate 9 0) b)
 unfolding chip_stage_own chip_stage_of memory_of chip_stage_bytes rom_bytes memory_bytes incoming_own outgoing_own
 stage_2 b e = rw (e, same_tag b 0 e, same_one b 1, step_good, same_own b 2)
 
-pub stage_3 : (b : List ℕ) → at b 0 ≡ 3 → at b 3 < 256 → then_some (chip_stage_own b) (chip_stage_of b)
-    ≡ then_some (incoming_own b) (Memory (Receive (incoming_of b) (at b 1) (at b 2) (word_at b 3)))
+pub stage_3 : (b : List ℕ) → at b 0 ≡ 3 → at b 3 < 256 → chip_stage_own b ≡ incoming_own b
 unfolding chip_stage_own chip_stage_of memory_of chip_stage_bytes rom_bytes memory_bytes incoming_own outgoing_own
 stage_3 b e h3 = rw (e, same_tag b 0 e, same_own b 1, same_own b 2, low_joined, same_own b 3, high_joined, same_own b 4)
 
-pub stage_4 : (b : List ℕ) → at b 0 ≡ 4 → at b 2 < 256 → at b 4 < 256 → then_some (chip_stage_own b) (chip_stage_of b)
-    ≡ then_some (outgoing_own b) (Memory (Send (outgoing_of b) (at b 1) (word_at b 2) (word_at b 4)))
+pub stage_4 : (b : List ℕ) → at b 0 ≡ 4 → at b 2 < 256 → at b 4 < 256 → chip_stage_own b ≡ outgoing_own b
 unfolding chip_stage_own chip_stage_of memory_of chip_stage_bytes rom_bytes memory_bytes incoming_own outgoing_own
 stage_4 b e h2 h4 =
     rw (e, same_tag b 0 e, same_own b 1, low_joined (at b 2) _ h2, same_own b 2, high_joined (at b 2) _ h2)
     (rw (same_own b 3, low_joined (at b 4) _ h4, same_own b 4, high_joined (at b 4) _ h4, same_own b 5))
 
-pub stage_5 : (b : List ℕ) → at b 0 ≡ 5 → at b 4 < 256 → then_some (chip_stage_own b) (chip_stage_of b)
-    ≡ then_some ((ltb (at b 2) 2 && ltb (at b 3) 2) && same 6 (replicate 6 0) b) (Memory (Armed (mode_of (at b 2)) (target_of (at b 3) (word_at b 4)) (at b 1)))
+pub stage_5 : (b : List ℕ) → at b 0 ≡ 5 → at b 4 < 256 → chip_stage_own b ≡ ((ltb (at b 2) 2 && ltb (at b 3) 2) && same 6 (replicate 6 0) b)
 unfolding chip_stage_own chip_stage_of memory_of chip_stage_bytes rom_bytes memory_bytes incoming_own outgoing_own
 stage_5 b e h4 =
     rw (e, same_tag b 0 e, same_own b 1, same_two b 2, mode_good, target_good, target_at_lem, low_joined)
     (rw (same_own b 4, high_joined, same_own b 5))
 
 pub stage_none : (b : List ℕ) → at b 0 ≢ 0 → at b 0 ≢ 1 → at b 0 ≢ 2 → at b 0 ≢ 3 → at b 0 ≢ 4 → at b 0 ≢ 5
-    → then_some (chip_stage_own b) (chip_stage_of b) ≡ None
+    → chip_stage_own b ≡ false
 unfolding chip_stage_own chip_stage_of memory_of chip_stage_bytes rom_bytes memory_bytes incoming_own outgoing_own
 stage_none b d0 d1 d2 d3 d4 d5 = rw (ne_eqb _ _ d1, ne_eqb _ _ d2, ne_eqb _ _ d3, ne_eqb _ _ d4, ne_eqb _ _ d5, same_not b 0 d0)
 
@@ -296,14 +277,24 @@ chip = laws _ _ _ _ _ _ _ (omega arith) (λ b. refl) refl back
     back : (s : State) → rest_at 8 (chip_bytes s) ≡ s.number → chip_at (chip_bytes s) (chip_stage_of (chip_bytes s)) ≡ s
     back s rest = simp (chip_stage_back s.stage (padded 4 []) s.number, rest)
 
-pub chip_read : (b : List ℕ) → length b ≡ 24
-    → then_some (is_chip_state b) (chip_state_of b) ≡ then_some (chip_stage_own b && same 12 (replicate 4 0) b) (chip_at b (chip_stage_of b))
-unfolding is_chip_state chip_stage_own chip_state_of chip_bytes
-chip_read b e = rw (chip.judged b e, chip.held b e)
+pub chip_held : (b : List ℕ) → length b ≡ 24 → chip_state_of b ≡ chip_at b (chip_stage_of b)
+unfolding chip_state_of
+chip_held b e = chip.held b e
 
-pub chip_none_lem : (b : List ℕ) → length b ≢ 24 → then_some (is_chip_state b) (chip_state_of b) ≡ None
+pub chip_judged_lem : (b : List ℕ) → length b ≡ 24 → is_chip_state b ≡ (chip_stage_own b && same 12 (replicate 4 0) b)
+unfolding is_chip_state chip_stage_own chip_state_of chip_bytes
+chip_judged_lem b e = chip.judged b e
+
+-- bytes of another length
+pub chip_other : (b : List ℕ) → length b ≢ 24 → chip_state_of b ≡ chip_none
+unfolding chip_state_of
+chip_other b d = rw (ne_eqb _ _ d)
+
+pub chip_refused : (b : List ℕ) → length b ≢ 24 → is_chip_state b ≡ false
 unfolding is_chip_state is_copy
-chip_none_lem b d = rw (ne_eqb _ _ d)
+chip_refused b d = rw (ne_eqb _ _ d)
+
+pub ruleset state_rows = (chip_held, chip_judged_lem, chip_other, chip_refused)
 
 pub chip_packing : ChipPacking
 unfolding chip_bytes chip_state_of is_chip_state

@@ -23,7 +23,7 @@ use Rattle.chip_stage.specs.declared.stage.MemoryStage.TheVariants.{Silent, Rece
 use Rattle.chip_entries.specs.declared.event.Stage.{Stage}
 use Rattle.chip_entries.specs.declared.event.Stage.TheVariants.{Rom, Memory}
 use Rattle.chip_entries.specs.declared.event.State.{State}
-use Rattle.plug_fields.specs.Fields.{word, joined, front, rest_at, is_copy, Inverse, judged_by, unpacked_by, buffer_outcome, buffer_after, mode_byte, mode_of}
+use Rattle.plug_fields.specs.Fields.{word, joined, front, rest_at, is_copy, Inverse, judged_by, buffer_outcome, buffer_after, mode_byte, mode_of}
 
 -- ---- the layout
 
@@ -177,10 +177,6 @@ is_chip_state b = is_copy 24 (chip_bytes (chip_state_of b)) b
 -- 2, or accepted
 unfoldable pub chip_judged : List ℕ → Outcome Done
 chip_judged b = judged_by (is_chip_state b)
-
--- 2, or the state
-unfoldable pub chip_unpacked : List ℕ → Outcome State
-chip_unpacked b = unpacked_by is_chip_state chip_state_of b
 
 -- a state into a buffer of 24 bytes: 10, or accepted; a refusal leaves the buffer
 unfoldable pub chip_packed : List ℕ → Outcome Done

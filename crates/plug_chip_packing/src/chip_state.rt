@@ -1,22 +1,23 @@
 // The chip's state as 24 bytes: specs/Chip.antt has the layout.
-ghost use Rattle.std.specs.Prelude.{◌≡◌, true, [], ◌∷◌, nat_lt};
-ghost use Rattle.std.specs.Bool.{then_some};
+ghost use Rattle.std.specs.Prelude.{◌≡◌, true, [], ◌∷◌};
 ghost use Rattle.base_types.specs.Outcome.{outcome_of};
 ghost use Rattle.plug_fields.specs.Fields.{front, padded, word};
 ghost use Rattle.plug_chip_packing.specs.Chip.{command_tag, command_of, target_bytes, target_of, step_tag, rom_step_of};
 ghost use Rattle.plug_chip_packing.specs.Chip.{incoming_bytes, outgoing_bytes, chip_stage_bytes, incoming_of, outgoing_of, chip_stage_of};
-ghost use Rattle.plug_chip_packing.specs.Chip.{chip_bytes, chip_state_of, is_chip_state, chip_unpacked, chip_packed, chip_buffer};
+ghost use Rattle.plug_chip_packing.specs.Chip.{chip_bytes, chip_state_of, is_chip_state, chip_judged, chip_packed, chip_buffer};
 ghost use Rattle.plug_chip_packing.specs.Code.Chip.{incoming_own, outgoing_own, chip_stage_own};
 
 use base_types::address::{DataAddress, Space, StatusAddress, Target};
 use base_types::refusal::Refusal;
+use base_types::stepped::Stepped;
 use base_types::write_mode::WriteMode;
 use chip_entries::event::{Stage, State};
 use chip_rom::{RomStage, RomStep};
 use chip_stage::stage::{Command, Incoming, MemoryStage, Outgoing};
-use plug_fields::{join, mode_byte, padded, some_mode, word, zeros};
+use plug_fields::{join, mode_byte, mode_of, padded, some_mode, word, zeros};
 
-// ---- enums by a number, and the other way, where a number is that of one: no From, which the enums' own crates alone could have
+// ---- enums by a number, and the other way, where a number that is that of none counts as the last one's: no From, which the enums' own
+// crates alone could have
 
 #[tactic(auto, unfolding(crate::specs::Chip::command_tag, crate::specs::Chip::write_tag))]
 fn command_tag(command: Command) -> u8
@@ -34,19 +35,18 @@ fn command_tag(command: Command) -> u8
 }
 
 #[tactic(auto, unfolding(crate::specs::Chip::command_of))]
-fn command_of(number: u8) -> Option<Command>
-    ensures { result ≡ then_some (nat_lt number 7) (command_of number) }
+fn command_of(number: u8) -> Command
+    ensures { result ≡ command_of number }
 {
-    Some(match number {
+    match number {
         0 => Command::ReadMemory,
         1 => Command::ReadStatus,
         2 => Command::ExtendedRead,
         3 => Command::Write(WriteMode::Ordinary, Space::Data),
         4 => Command::Write(WriteMode::Ordinary, Space::Status),
         5 => Command::Write(WriteMode::Quick, Space::Data),
-        6 => Command::Write(WriteMode::Quick, Space::Status),
-        _ => return None,
-    })
+        _ => Command::Write(WriteMode::Quick, Space::Status),
+    }
 }
 
 #[tactic(auto, unfolding(crate::specs::Chip::step_tag))]
@@ -63,17 +63,16 @@ fn step_tag(step: RomStep) -> u8
 }
 
 #[tactic(auto, unfolding(crate::specs::Chip::rom_step_of))]
-fn step_of(number: u8) -> Option<RomStep>
-    ensures { result ≡ then_some (nat_lt number 5) (rom_step_of number) }
+fn step_of(number: u8) -> RomStep
+    ensures { result ≡ rom_step_of number }
 {
-    Some(match number {
+    match number {
         0 => RomStep::Read,
         1 => RomStep::Match,
         2 => RomStep::SearchBit,
         3 => RomStep::SearchComplement,
-        4 => RomStep::SearchTake,
-        _ => return None,
-    })
+        _ => RomStep::SearchTake,
+    }
 }
 
 #[tactic(auto, unfolding(crate::specs::Chip::target_tag, crate::specs::Chip::target_address))]
@@ -88,13 +87,12 @@ fn target_bytes(target: Target) -> [u8; 3]
 }
 
 #[tactic(auto, unfolding(crate::specs::Chip::target_of))]
-fn target_of(number: u8, address: u16) -> Option<Target>
-    ensures { result ≡ then_some (nat_lt number 2) (target_of number address) }
+fn target_of(number: u8, address: u16) -> Target
+    ensures { result ≡ target_of number address }
 {
     match number {
-        0 => Some(Target::Data(DataAddress(address))),
-        1 => Some(Target::Status(StatusAddress(address))),
-        _ => None,
+        0 => Target::Data(DataAddress(address)),
+        _ => Target::Status(StatusAddress(address)),
     }
 }
 
@@ -175,97 +173,136 @@ fn front_of(stage: Stage) -> [u8; 16]
     }
 }
 
-// ---- out of bytes: what stands at a place, if the bytes from there to the end of the stage's are its own
+// ---- out of bytes: what stands at a place of any bytes (a tag that is that of none counts as another one), and whether the bytes from
+// there to the end of the stage's are its own
 
-#[tactic(auto, using(crate::proofs::Chip::incoming_rows))]
-fn incoming_of(b: &[u8; 24]) -> Option<Incoming>
-    ensures { result ≡ then_some (incoming_own b.now) (incoming_of b.now) }
+#[tactic(auto, using(crate::proofs::Chip::incoming_rows), unfolding(crate::specs::Chip::incoming_of))]
+fn incoming_of(b: &[u8; 24]) -> (Incoming, bool)
+    ensures incoming { result.0 ≡ incoming_of b.now }
+    ensures own { result.1 ≡ incoming_own b.now }
 {
     match b[5] {
-        0 => zeros(b, 6, 12).then_some(Incoming::Command),
-        1 => zeros(b, 7, 12).then_some(Incoming::AddressLow(command_of(b[6])?)),
-        2 => zeros(b, 8, 12).then_some(Incoming::AddressHigh(command_of(b[6])?, b[7])),
+        0 => (Incoming::Command, zeros(b, 6, 12)),
+        1 => (
+            Incoming::AddressLow(command_of(b[6])),
+            b[6] < 7 && zeros(b, 7, 12),
+        ),
+        2 => (
+            Incoming::AddressHigh(command_of(b[6]), b[7]),
+            b[6] < 7 && zeros(b, 8, 12),
+        ),
         3 => {
-            let mode = some_mode(b[6])?;
-            let target = target_of(b[7], join(b[8], b[9]))?;
-            zeros(b, 10, 12).then_some(Incoming::Data(mode, target))
+            let target = target_of(b[7], join(b[8], b[9]));
+            let own = some_mode(b[6]).is_some() && b[7] < 2 && zeros(b, 10, 12);
+            (Incoming::Data(mode_of(b[6]), target), own)
         }
-        _ => None,
+        _ => (Incoming::Command, false),
     }
 }
 
-#[tactic(auto, using(crate::proofs::Chip::outgoing_rows))]
-fn outgoing_of(b: &[u8; 24]) -> Option<Outgoing>
-    ensures { result ≡ then_some (outgoing_own b.now) (outgoing_of b.now) }
+#[tactic(auto, using(crate::proofs::Chip::outgoing_rows), unfolding(crate::specs::Chip::outgoing_of, crate::specs::Chip::addressed_of))]
+fn outgoing_of(b: &[u8; 24]) -> (Outgoing, bool)
+    ensures outgoing { result.0 ≡ outgoing_of b.now }
+    ensures own { result.1 ≡ outgoing_own b.now }
 {
     let address = join(b[7], b[8]);
     match b[6] {
-        0 => zeros(b, 9, 12).then_some(Outgoing::MemoryData(DataAddress(address))),
-        1 => zeros(b, 7, 12).then_some(Outgoing::MemoryCrc),
-        2 => zeros(b, 9, 12).then_some(Outgoing::StatusData(StatusAddress(address))),
-        3 => zeros(b, 9, 12).then_some(Outgoing::StatusCrc(StatusAddress(address))),
-        4 => zeros(b, 9, 12).then_some(Outgoing::RedirectionByte(DataAddress(address))),
-        5 => zeros(b, 9, 12).then_some(Outgoing::RedirectionCrc(DataAddress(address))),
-        6 => zeros(b, 9, 12).then_some(Outgoing::PageData(DataAddress(address))),
-        7 => zeros(b, 9, 12).then_some(Outgoing::PageCrc(DataAddress(address))),
+        0 => (Outgoing::MemoryData(DataAddress(address)), zeros(b, 9, 12)),
+        1 => (Outgoing::MemoryCrc, zeros(b, 7, 12)),
+        2 => (
+            Outgoing::StatusData(StatusAddress(address)),
+            zeros(b, 9, 12),
+        ),
+        3 => (Outgoing::StatusCrc(StatusAddress(address)), zeros(b, 9, 12)),
+        4 => (
+            Outgoing::RedirectionByte(DataAddress(address)),
+            zeros(b, 9, 12),
+        ),
+        5 => (
+            Outgoing::RedirectionCrc(DataAddress(address)),
+            zeros(b, 9, 12),
+        ),
+        6 => (Outgoing::PageData(DataAddress(address)), zeros(b, 9, 12)),
+        7 => (Outgoing::PageCrc(DataAddress(address)), zeros(b, 9, 12)),
         8 => {
-            let target = target_of(b[8], join(b[9], b[10]))?;
-            zeros(b, 11, 12).then_some(Outgoing::WriteCrc(target, b[7]))
+            let target = target_of(b[8], join(b[9], b[10]));
+            (
+                Outgoing::WriteCrc(target, b[7]),
+                b[8] < 2 && zeros(b, 11, 12),
+            )
         }
         9 => {
-            let mode = some_mode(b[7])?;
-            let target = target_of(b[8], join(b[9], b[10]))?;
-            zeros(b, 11, 12).then_some(Outgoing::ReadBack(mode, target))
+            let target = target_of(b[8], join(b[9], b[10]));
+            let own = some_mode(b[7]).is_some() && b[8] < 2 && zeros(b, 11, 12);
+            (Outgoing::ReadBack(mode_of(b[7]), target), own)
         }
-        _ => None,
+        _ => (Outgoing::MemoryCrc, false),
     }
 }
 
-#[tactic(auto, using(crate::proofs::Chip::stage_rows))]
-fn stage_of(b: &[u8; 24]) -> Option<Stage>
-    ensures { result ≡ then_some (chip_stage_own b.now) (chip_stage_of b.now) }
+#[tactic(auto, using(crate::proofs::Chip::stage_rows), unfolding(crate::specs::Chip::chip_stage_of, crate::specs::Chip::memory_of))]
+fn stage_of(b: &[u8; 24]) -> (Stage, bool)
+    ensures stage { result.0 ≡ chip_stage_of b.now }
+    ensures own { result.1 ≡ chip_stage_own b.now }
 {
     match b[0] {
-        0 => zeros(b, 1, 12).then_some(Stage::Memory(MemoryStage::Silent)),
-        1 => zeros(b, 3, 12).then_some(Stage::Rom(RomStage::Command(b[1], b[2]))),
-        2 => zeros(b, 3, 12).then_some(Stage::Rom(RomStage::Number(step_of(b[1])?, b[2]))),
+        0 => (Stage::Memory(MemoryStage::Silent), zeros(b, 1, 12)),
+        1 => (Stage::Rom(RomStage::Command(b[1], b[2])), zeros(b, 3, 12)),
+        2 => (
+            Stage::Rom(RomStage::Number(step_of(b[1]), b[2])),
+            b[1] < 5 && zeros(b, 3, 12),
+        ),
         3 => {
             let crc = join(b[3], b[4]);
-            Some(Stage::Memory(MemoryStage::Receive(incoming_of(b)?, b[1], b[2], crc)))
+            let (incoming, own) = incoming_of(b);
+            let stage = MemoryStage::Receive(incoming, b[1], b[2], crc);
+            (Stage::Memory(stage), own)
         }
         4 => {
             let bits = join(b[2], b[3]);
             let crc = join(b[4], b[5]);
-            Some(Stage::Memory(MemoryStage::Send(outgoing_of(b)?, b[1], bits, crc)))
+            let (outgoing, own) = outgoing_of(b);
+            let stage = MemoryStage::Send(outgoing, b[1], bits, crc);
+            (Stage::Memory(stage), own)
         }
         5 => {
-            let mode = some_mode(b[2])?;
-            let target = target_of(b[3], join(b[4], b[5]))?;
-            zeros(b, 6, 12).then_some(Stage::Memory(MemoryStage::Armed(mode, target, b[1])))
+            let target = target_of(b[3], join(b[4], b[5]));
+            let own = some_mode(b[2]).is_some() && b[3] < 2 && zeros(b, 6, 12);
+            let stage = MemoryStage::Armed(mode_of(b[2]), target, b[1]);
+            (Stage::Memory(stage), own)
         }
-        _ => None,
+        _ => (Stage::Memory(MemoryStage::Silent), false),
     }
 }
 
 // ---- the entries
 
-#[tactic(auto, using(crate::proofs::Chip::chip_read, crate::proofs::Chip::chip_none_lem))]
-fn state_of(bytes: &[u8]) -> Option<State>
-    ensures { result ≡ then_some (is_chip_state bytes.now) (chip_state_of bytes.now) }
+// The state of 24 bytes, and of any others. Refused: 2 for bytes of another length and for bytes that are those of no state. A state out
+// of its ranges is no matter here: the chip refuses it.
+#[tactic(auto, using(crate::proofs::Chip::state_rows), unfolding(crate::specs::Chip::chip_judged))]
+pub fn unpack(bytes: &[u8]) -> Stepped<Result<(), Refusal>, State>
+    ensures judged { outcome_of result.answer ≡ chip_judged bytes.now }
+    ensures state { result.state ≡ chip_state_of bytes.now }
 {
-    let b = <&[u8; 24]>::try_from(bytes).ok()?;
-    let stage = stage_of(b)?;
-    let number = plug_fields::rest_of(b);
-    zeros(b, 12, 16).then_some(State { stage, number })
-}
-
-// The state of 24 bytes. Refused: 2 for bytes of another length and for bytes that are those of no state. A state out of its ranges
-// is no matter here: the chip refuses it.
-#[tactic(auto, unfolding(crate::specs::Chip::chip_unpacked))]
-pub fn unpack(bytes: &[u8]) -> Result<State, Refusal>
-    ensures { outcome_of result ≡ chip_unpacked bytes.now }
-{
-    state_of(bytes).ok_or(Refusal::StateRange)
+    let Ok(b) = <&[u8; 24]>::try_from(bytes) else {
+        return Stepped {
+            answer: Err(Refusal::StateRange),
+            state: State {
+                stage: Stage::Memory(MemoryStage::Silent),
+                number: [0; 8],
+            },
+        };
+    };
+    let (stage, own) = stage_of(b);
+    let state = State {
+        stage,
+        number: plug_fields::rest_of(b),
+    };
+    let all = own && zeros(b, 12, 16);
+    Stepped {
+        answer: all.then_some(()).ok_or(Refusal::StateRange),
+        state,
+    }
 }
 
 // A state into a buffer of 24 bytes. Refused: 10. What is left there holds that state and is accepted by unpack.
@@ -276,5 +313,7 @@ pub fn pack(state: State, bytes: &mut [u8]) -> Result<(), Refusal>
     ensures back { chip_state_of (chip_bytes state) ≡ state }
     ensures kept { is_chip_state (chip_bytes state) ≡ true }
 {
-    plug_fields::put(front_of(state.stage), &state.number, bytes)
+    // By a name of its own: the loan of a part copied the whole state.
+    let number = state.number;
+    plug_fields::put(front_of(state.stage), &number, bytes)
 }

@@ -6,9 +6,9 @@ use mathlib.Core.List.{List, [], ◌∷◌, ◌++◌}
 use native.Mathlib.Omega.{arith}
 use lib.Dec.{eqb, ltb}
 use native.Mathlib.Decide.{dec_lt}
-use Rattle.std.specs.List.{list_all}
-use Rattle.std.proofs.lemmas.List.{drop-take, drop_min, take_rest}
-use lib.ListN.{length, get_or, set, take, drop, replicate, length-append, length-replicate, length-take, length-drop, drop_of_length-le, get_or-eq_default}
+use Rattle.std.specs.List.{list_all, range_with_len}
+use Rattle.std.proofs.lemmas.List.{drop_min, take_rest}
+use lib.ListN.{length, get_or, set, take, drop, replicate, length-append, length-replicate, length-drop, drop_of_length-le, get_or-eq_default}
 use lib.Seq.{drop-cons, drop_at}
 use borrow.Author.Tests.{eq-eqb, ne_eqb, eqb-true, le-ltb}
 use Rattle.base_types.specs.Bits.{one}
@@ -90,30 +90,31 @@ unfolding same
 none_past b zero i le = refl
 none_past b (suc n) i le = rw (get_or-eq_default b 0 le) (none_past b n (suc i) (omega arith))
 
--- the bytes from a place up to another, one after the other
-zeros_from : (b : List ℕ) (n i : ℕ) → list_all (λ x. eqb x 0) (take n (drop i b)) ≡ same i (replicate n 0) b
+-- zeros past the end are zeros of the bytes
+zeros_more : (b : List ℕ) (n m i : ℕ) → n ≤ m → length b ≤ i + n → same i (replicate n 0) b ≡ same i (replicate m 0) b
 unfolding same
-zeros_from b zero i = refl
-zeros_from b (suc n) i = go (zeros_from b n (suc i)) (dec_lt i (length b))
-  where
-    go : list_all (λ x. eqb x 0) (take n (drop (suc i) b)) ≡ same (suc i) (replicate n 0) b → Dec (i < length b)
-        → list_all (λ x. eqb x 0) (take (suc n) (drop i b)) ≡ same i (replicate (suc n) 0) b
-    go more (yes lt) = rw (drop-cons b i 0 lt) (ap (λ (t : Bool). eqb (get_or b i 0) 0 && t) more)
-    go more (no le) = rw (drop_of_length-le b {i = i} (omega arith), none_past b (suc n) i (omega arith))
+zeros_more b zero m i le end = sym (none_past b m i (omega arith))
+zeros_more b (suc n) zero i le end = absurd (omega arith)
+zeros_more b (suc n) (suc m) i le end = ap (λ (t : Bool). eqb (get_or b i 0) 0 && t) (zeros_more b n m (suc i) (omega arith) (omega arith))
 
-zeros_cut : (from to : ℕ) (b : List ℕ) → drop from (take to b) ≡ take (to - from) (drop from b)
-zeros_cut from to b = go (dec_lt from to)
+-- the bytes of so many places, one after the other
+zeros_at : (b : List ℕ) (n i : ℕ) → list_all (λ k. eqb (get_or b k 0) 0) (range_with_len i n) ≡ same i (replicate n 0) b
+unfolding same
+zeros_at b zero i = refl
+zeros_at b (suc n) i =
+    let next : i + 1 ≡ suc i = omega arith in
+    rw next (ap (λ (t : Bool). eqb (get_or b i 0) 0 && t) (zeros_at b n (suc i)))
+
+-- from a place up to another, those past the end left out
+pub zeros_are : (from to : ℕ) (b : List ℕ)
+    → list_all (λ k. eqb (get_or b k 0) 0) (range_with_len from (min to (length b) - from)) ≡ same from (replicate (to - from) 0) b
+zeros_are from to b = zeros_at b (min to (length b) - from) from ∙ go (dec_lt (length b) to)
   where
-    go : Dec (from < to) → drop from (take to b) ≡ take (to - from) (drop from b)
-    go (yes lt) =
-        let e : to ≡ from + (to - from) = omega arith in
-        ap (λ (n : ℕ). drop from (take n b)) e ∙ drop-take from (to - from) b
+    go : Dec (length b < to) → same from (replicate (min to (length b) - from) 0) b ≡ same from (replicate (to - from) 0) b
+    go (yes lt) = zeros_more b (min to (length b) - from) (to - from) from (omega arith) (omega arith)
     go (no le) =
-        let z : to - from ≡ 0 = omega arith in
-        rw (z, drop_of_length-le (take to b) {i = from} (simp length-take (omega arith)))
-
-pub zeros_are : (from to : ℕ) (b : List ℕ) → list_all (λ x. eqb x 0) (drop from (take to b)) ≡ same from (replicate (to - from) 0) b
-zeros_are from to b = ap (list_all (λ x. eqb x 0)) (zeros_cut from to b) ∙ zeros_from b (to - from) from
+        let e : min to (length b) ≡ to = omega arith in
+        rw e
 
 padded_none : (n : ℕ) → padded n [] ≡ replicate n 0
 padded_none zero = refl

@@ -49,10 +49,6 @@ pub record Inverse {S : Type 0} (n : ℕ) (bytes : S → List ℕ) (array : S �
 abbrev pub judged_by : Bool → Outcome Done
 judged_by good = judge good 2 (accepted done)
 
--- 2, or the state of the bytes, which is accepted
-abbrev pub unpacked_by : {S : Type 0} → (List ℕ → Bool) → (List ℕ → S) → List ℕ → Outcome S
-unpacked_by is_state of b = judge (is_state b) 2 (accepted (of b))
-
 -- the bytes of a state, so many, into a buffer: 10, or accepted; a refusal leaves the buffer
 unfoldable pub buffer_outcome : ℕ → List ℕ → Outcome Done
 buffer_outcome size buffer = judge (eqb (length buffer) size) 10 (accepted done)

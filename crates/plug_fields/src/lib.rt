@@ -8,7 +8,7 @@ ghost use Rattle.plug_fields.specs.Fields.{word, joined, padded, same, rest_at, 
 
 use base_types::refusal::Refusal;
 use base_types::write_mode::WriteMode;
-use chip_memory::page;
+use chip_memory::{image, page};
 
 // ---- numbers
 
@@ -30,7 +30,7 @@ pub fn join(l: u8, h: u8) -> u16
 pub fn zeros(b: &[u8], from: usize, to: usize) -> bool
     ensures { result ≡ same from (replicate (to - from) 0) b.now }
 {
-    b.iter().take(to).skip(from).all(|x| *x == 0)
+    (from..to.min(b.len())).all(|i| image::byte_at(b, i) == 0)
 }
 
 // ---- the mode of a write: no From, which its own crate alone could have

@@ -6,6 +6,8 @@ use mathlib.Core.List.{List}
 use lib.ListN.{length}
 use borrow.Author.Tests.{eqb-true}
 use Rattle.chip_memory.specs.Layout.{image_size, is_image}
+use Rattle.chip_memory.specs.Page.{copied}
+use Rattle.chip_memory.proofs.Pages.{copied_same}
 use Rattle.plug_sheet.specs.Stored.{is_sheet, number_part, image_part}
 use Rattle.plug_sheet.proofs.Sheets.{sheet_laws}
 use Rattle.plug_answers.specs.Answers.{is_number_buffer}
@@ -19,3 +21,10 @@ module _ (sheet : List ℕ) (e : is_sheet 64 sheet ≡ true) where
   unfolding is_image
   image_fits img sized =
       eqb-true (length img) (image_size 64) sized ∙ sym (eqb-true (length (image_part 64 sheet)) (image_size 64) ((sheet_laws 64).image_length sheet e))
+
+  -- so what is copied there is all of them
+  pub number_copied : (number : List ℕ) → is_number_buffer number ≡ true → copied (number_part 64 sheet) number ≡ number_part 64 sheet
+  number_copied number eight = copied_same (number_part 64 sheet) number (sym (number_fits number eight))
+
+  pub image_copied : (img : List ℕ) → is_image 64 img ≡ true → copied (image_part 64 sheet) img ≡ image_part 64 sheet
+  image_copied img sized = copied_same (image_part 64 sheet) img (sym (image_fits img sized))

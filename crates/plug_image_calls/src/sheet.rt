@@ -6,6 +6,7 @@ ghost use Rattle.plug_image_calls.specs.Sheet.{sheet_written, sheet_buffer, shee
 
 use crate::lent;
 use base_types::refusal::Refusal;
+use chip_memory::page;
 use plug_answers::{answer, calls};
 use plug_sheet::{list, stored};
 
@@ -20,7 +21,7 @@ pub fn write(number: &[u8], image: &[u8], sheet: &mut [u8]) -> Result<(), Refusa
 }
 
 // The number and the image of a sheet.
-#[tactic(auto, using(crate::proofs::Sheets::number_fits, crate::proofs::Sheets::image_fits), unfolding(crate::specs::Sheet::sheet_read, crate::specs::Sheet::read_number, crate::specs::Sheet::read_image, plug_sheet::specs::Stored::sheet_answer))]
+#[tactic(auto, using(crate::proofs::Sheets::number_copied, crate::proofs::Sheets::image_copied), unfolding(crate::specs::Sheet::sheet_read, crate::specs::Sheet::read_number, crate::specs::Sheet::read_image, plug_sheet::specs::Stored::sheet_answer))]
 pub fn read(sheet: &[u8], number: &mut [u8], image: &mut [u8]) -> Result<(), Refusal>
     ensures answer { outcome_of result ≡ sheet_read 64 sheet.now number.old image.old }
     ensures number { number.new ≡ read_number 64 sheet.now number.old image.old }
@@ -28,8 +29,8 @@ pub fn read(sheet: &[u8], number: &mut [u8], image: &mut [u8]) -> Result<(), Ref
 {
     lent(image, answer::is_number(number))?;
     stored::judge(sheet)?;
-    number.copy_from_slice(stored::number(sheet));
-    image.copy_from_slice(stored::image(sheet));
+    page::copy(stored::number(sheet), number);
+    page::copy(stored::image(sheet), image);
     Ok(())
 }
 

@@ -2,13 +2,11 @@
 use Prim.Native.Nat.{ℕ}
 use mathlib.Core.Path.{◌≡◌, refl}
 use mathlib.Core.Logic.{◌≢◌}
-use mathlib.Core.Bool.{true, ◌&&◌}
+use mathlib.Core.Bool.{true, false, ◌&&◌}
 use mathlib.Core.List.{List, [], ◌++◌}
 use native.Mathlib.Omega.{arith}
 use lib.ListN.{length, get_or, replicate}
 use borrow.Author.Tests.{ne_eqb}
-use Rattle.std.specs.Bool.{then_some}
-use Rattle.std.proofs.Common.{None}
 use Rattle.master_number.specs.declared.Phase.{Phase}
 use Rattle.master_number.specs.declared.Phase.TheVariants.{Begin, Presence, Command, Receive, Closing, Done as Ended, Stopped}
 use Rattle.master_number.specs.declared.NumberStop.TheVariants.{NoPresence, Crc8, Family}
@@ -30,48 +28,45 @@ phase_back (Stopped NoPresence) fields rest = refl
 phase_back (Stopped Crc8) fields rest = refl
 phase_back (Stopped Family) fields rest = refl
 
--- ---- the phase, by its tag
+-- ---- whether the phase's bytes are its own, by its tag
 
 abbrev at : List ℕ → ℕ → ℕ
 at b i = get_or b i 0
 
-pub phase_0 : (b : List ℕ) → at b 0 ≡ 0 → then_some (phase_own b) (phase_of b) ≡ then_some (same 1 (replicate 7 0) b) Begin
+pub own_0 : (b : List ℕ) → at b 0 ≡ 0 → phase_own b ≡ same 1 (replicate 7 0) b
 unfolding phase_own phase_bytes phase_of
-phase_0 b e = rw (e, same_tag b 0 e)
+own_0 b e = rw (e, same_tag b 0 e)
 
-pub phase_1 : (b : List ℕ) → at b 0 ≡ 1 → then_some (phase_own b) (phase_of b) ≡ then_some (same 1 (replicate 7 0) b) Presence
+pub own_1 : (b : List ℕ) → at b 0 ≡ 1 → phase_own b ≡ same 1 (replicate 7 0) b
 unfolding phase_own phase_bytes phase_of
-phase_1 b e = rw (e, same_tag b 0 e)
+own_1 b e = rw (e, same_tag b 0 e)
 
-pub phase_2 : (b : List ℕ) → at b 0 ≡ 2 → then_some (phase_own b) (phase_of b) ≡ then_some (same 2 (replicate 6 0) b) (Command (at b 1))
+pub own_2 : (b : List ℕ) → at b 0 ≡ 2 → phase_own b ≡ same 2 (replicate 6 0) b
 unfolding phase_own phase_bytes phase_of
-phase_2 b e = rw (e, same_tag b 0 e, same_own b 1)
+own_2 b e = rw (e, same_tag b 0 e, same_own b 1)
 
-pub phase_3 : (b : List ℕ) → at b 0 ≡ 3 → then_some (phase_own b) (phase_of b)
-    ≡ then_some (same 4 (replicate 4 0) b) (Receive (at b 1) (at b 2) (at b 3))
+pub own_3 : (b : List ℕ) → at b 0 ≡ 3 → phase_own b ≡ same 4 (replicate 4 0) b
 unfolding phase_own phase_bytes phase_of
-phase_3 b e = rw (e, same_tag b 0 e, same_own b 1, same_own b 2, same_own b 3)
+own_3 b e = rw (e, same_tag b 0 e, same_own b 1, same_own b 2, same_own b 3)
 
-pub phase_4 : (b : List ℕ) → at b 0 ≡ 4 → then_some (phase_own b) (phase_of b) ≡ then_some (same 1 (replicate 7 0) b) Closing
+pub own_4 : (b : List ℕ) → at b 0 ≡ 4 → phase_own b ≡ same 1 (replicate 7 0) b
 unfolding phase_own phase_bytes phase_of
-phase_4 b e = rw (e, same_tag b 0 e)
+own_4 b e = rw (e, same_tag b 0 e)
 
-pub phase_5 : (b : List ℕ) → at b 0 ≡ 5 → then_some (phase_own b) (phase_of b) ≡ then_some (same 1 (replicate 7 0) b) Ended
+pub own_5 : (b : List ℕ) → at b 0 ≡ 5 → phase_own b ≡ same 1 (replicate 7 0) b
 unfolding phase_own phase_bytes phase_of
-phase_5 b e = rw (e, same_tag b 0 e)
+own_5 b e = rw (e, same_tag b 0 e)
 
-pub phase_6 : (b : List ℕ) → at b 0 ≡ 6 → then_some (phase_own b) (phase_of b)
-    ≡ then_some (stop_own (at b 1) (at b 2) && same 3 (replicate 5 0) b) (Stopped (number_stop_of (at b 1)))
+pub own_6 : (b : List ℕ) → at b 0 ≡ 6 → phase_own b ≡ (stop_own (at b 1) (at b 2) && same 3 (replicate 5 0) b)
 unfolding stop_own phase_own phase_bytes phase_of
-phase_6 b e = rw (e, same_tag b 0 e, same_two b 1)
+own_6 b e = rw (e, same_tag b 0 e, same_two b 1)
 
-pub phase_none : (b : List ℕ) → at b 0 ≢ 0 → at b 0 ≢ 1 → at b 0 ≢ 2 → at b 0 ≢ 3 → at b 0 ≢ 4 → at b 0 ≢ 5 → at b 0 ≢ 6
-    → then_some (phase_own b) (phase_of b) ≡ None
+pub own_none : (b : List ℕ) → at b 0 ≢ 0 → at b 0 ≢ 1 → at b 0 ≢ 2 → at b 0 ≢ 3 → at b 0 ≢ 4 → at b 0 ≢ 5 → at b 0 ≢ 6 → phase_own b ≡ false
 unfolding phase_own phase_bytes phase_of
-phase_none b d0 d1 d2 d3 d4 d5 d6 =
+own_none b d0 d1 d2 d3 d4 d5 d6 =
     rw (ne_eqb _ _ d1, ne_eqb _ _ d2, ne_eqb _ _ d3, ne_eqb _ _ d4, ne_eqb _ _ d5, ne_eqb _ _ d6, same_not b 0 d0)
 
-pub ruleset phase_rows = (phase_0, phase_1, phase_2, phase_3, phase_4, phase_5, phase_6, phase_none)
+pub ruleset phase_rows = (own_0, own_1, own_2, own_3, own_4, own_5, own_6, own_none)
 
 -- ---- states
 
@@ -82,14 +77,24 @@ number = laws _ _ _ _ _ _ _ (omega arith) (λ b. refl) refl back
     back : (s : NumberRead) → rest_at 8 (number_bytes s) ≡ s.bytes → number_at (number_bytes s) (phase_of (number_bytes s)) ≡ s
     back s rest = simp (phase_back s.phase (padded 8 []) s.bytes, rest)
 
-pub number_read : (b : List ℕ) → length b ≡ 24
-    → then_some (is_number_state b) (number_read_of b) ≡ then_some (phase_own b && same 8 (replicate 8 0) b) (number_at b (phase_of b))
-unfolding is_number_state phase_own number_read_of number_bytes
-number_read b e = rw (number.judged b e, number.held b e)
+pub number_held : (b : List ℕ) → length b ≡ 24 → number_read_of b ≡ number_at b (phase_of b)
+unfolding number_read_of
+number_held b e = number.held b e
 
-pub number_none_lem : (b : List ℕ) → length b ≢ 24 → then_some (is_number_state b) (number_read_of b) ≡ None
+pub number_judged_lem : (b : List ℕ) → length b ≡ 24 → is_number_state b ≡ (phase_own b && same 8 (replicate 8 0) b)
+unfolding is_number_state phase_own number_read_of number_bytes
+number_judged_lem b e = number.judged b e
+
+-- bytes of another length
+pub number_other : (b : List ℕ) → length b ≢ 24 → number_read_of b ≡ number_none
+unfolding number_read_of
+number_other b d = rw (ne_eqb _ _ d)
+
+pub number_refused : (b : List ℕ) → length b ≢ 24 → is_number_state b ≡ false
 unfolding is_number_state is_copy
-number_none_lem b d = rw (ne_eqb _ _ d)
+number_refused b d = rw (ne_eqb _ _ d)
+
+pub ruleset state_rows = (number_held, number_judged_lem, number_other, number_refused)
 
 pub number_packing : NumberPacking
 unfolding number_bytes number_read_of is_number_state

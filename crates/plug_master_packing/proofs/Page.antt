@@ -2,19 +2,17 @@
 use Prim.Native.Nat.{ℕ, ◌<◌}
 use mathlib.Core.Path.{◌≡◌, refl}
 use mathlib.Core.Logic.{◌≢◌}
-use mathlib.Core.Bool.{true, ◌&&◌}
+use mathlib.Core.Bool.{true, false, ◌&&◌}
 use mathlib.Core.List.{List, [], ◌∷◌, ◌++◌}
 use native.Mathlib.Omega.{arith}
 use lib.ListN.{length, get_or, set, replicate}
 use borrow.Author.Tests.{ne_eqb}
-use Rattle.std.specs.Bool.{then_some}
-use Rattle.std.proofs.Common.{None}
 use Rattle.master_page.specs.declared.Part.TheVariants.{Redirection, RedirectionCrc, Data, DataCrc}
 use Rattle.master_page.specs.declared.Phase.{Phase}
 use Rattle.master_page.specs.declared.Phase.TheVariants.{Begin, Presence, Command, Receive, Closing, Done as Ended, Stopped}
 use Rattle.master_page.specs.declared.PageStop.TheVariants.{PageNumber, Loop, Outside, Crc16, NoPresence}
 use Rattle.master_page.specs.declared.PageRead.{PageRead}
-use Rattle.plug_fields.specs.Fields.{joined, padded, front, same, rest_at, is_copy, value_of}
+use Rattle.plug_fields.specs.Fields.{padded, front, same, rest_at, is_copy, value_of}
 use Rattle.plug_master_packing.specs.Page.{part_bytes, part_of, phase_bytes, page_stop_of, phase_of, page_at, page_none, page_read_bytes, page_read_of, is_page_state, PagePacking}
 use Rattle.plug_master_packing.specs.Code.Page.{part_own, stop_own, phase_own}
 use Rattle.plug_fields.proofs.Laws.{stored, field, same_tag, same_not, same_own, same_two, low_joined, high_joined, halves, Laws, laws}
@@ -36,72 +34,67 @@ phase_back (Stopped (Outside x)) fields rest = refl
 phase_back (Stopped Crc16) fields rest = refl
 phase_back (Stopped NoPresence) fields rest = refl
 
--- ---- what stands at a place, by its tag
+-- ---- whether the bytes of what stands at a place are its own, by its tag
 
 abbrev at : List ℕ → ℕ → ℕ
 at b i = get_or b i 0
 
-pub part_0 : (b : List ℕ) → at b 4 ≡ 0 → then_some (part_own b) (part_of b) ≡ then_some (same 5 (replicate 3 0) b) Redirection
+pub part_0 : (b : List ℕ) → at b 4 ≡ 0 → part_own b ≡ same 5 (replicate 3 0) b
 unfolding part_own part_bytes part_of
 part_0 b e = rw (e, same_tag b 4 e)
 
-pub part_1 : (b : List ℕ) → at b 4 ≡ 1 → then_some (part_own b) (part_of b)
-    ≡ then_some (same 6 (replicate 2 0) b) (RedirectionCrc (record { 0 = at b 5 }))
+pub part_1 : (b : List ℕ) → at b 4 ≡ 1 → part_own b ≡ same 6 (replicate 2 0) b
 unfolding part_own part_bytes part_of
 part_1 b e = rw (e, same_tag b 4 e, same_own b 5)
 
-pub part_2 : (b : List ℕ) → at b 4 ≡ 2 → then_some (part_own b) (part_of b) ≡ then_some (same 6 (replicate 2 0) b) (Data (at b 5))
+pub part_2 : (b : List ℕ) → at b 4 ≡ 2 → part_own b ≡ same 6 (replicate 2 0) b
 unfolding part_own part_bytes part_of
 part_2 b e = rw (e, same_tag b 4 e, same_own b 5)
 
-pub part_3 : (b : List ℕ) → at b 4 ≡ 3 → then_some (part_own b) (part_of b) ≡ then_some (same 5 (replicate 3 0) b) DataCrc
+pub part_3 : (b : List ℕ) → at b 4 ≡ 3 → part_own b ≡ same 5 (replicate 3 0) b
 unfolding part_own part_bytes part_of
 part_3 b e = rw (e, same_tag b 4 e)
 
-pub part_none : (b : List ℕ) → at b 4 ≢ 0 → at b 4 ≢ 1 → at b 4 ≢ 2 → at b 4 ≢ 3 → then_some (part_own b) (part_of b) ≡ None
+pub part_none : (b : List ℕ) → at b 4 ≢ 0 → at b 4 ≢ 1 → at b 4 ≢ 2 → at b 4 ≢ 3 → part_own b ≡ false
 unfolding part_own part_bytes part_of
-part_none b d0 d1 d2 d3 =
-    rw (ne_eqb _ _ d0, ne_eqb _ _ d1, ne_eqb _ _ d2, same_not b 4 d3)
+part_none b d0 d1 d2 d3 = rw (ne_eqb _ _ d0, ne_eqb _ _ d1, ne_eqb _ _ d2, same_not b 4 d3)
 
 pub ruleset part_rows = (part_0, part_1, part_2, part_3, part_none)
 
-pub phase_0 : (b : List ℕ) → at b 0 ≡ 0 → then_some (phase_own b) (phase_of b) ≡ then_some (same 1 (replicate 7 0) b) Begin
+pub own_0 : (b : List ℕ) → at b 0 ≡ 0 → phase_own b ≡ same 1 (replicate 7 0) b
 unfolding phase_own phase_bytes phase_of
-phase_0 b e = rw (e, same_tag b 0 e)
+own_0 b e = rw (e, same_tag b 0 e)
 
-pub phase_1 : (b : List ℕ) → at b 0 ≡ 1 → then_some (phase_own b) (phase_of b) ≡ then_some (same 1 (replicate 7 0) b) Presence
+pub own_1 : (b : List ℕ) → at b 0 ≡ 1 → phase_own b ≡ same 1 (replicate 7 0) b
 unfolding phase_own phase_bytes phase_of
-phase_1 b e = rw (e, same_tag b 0 e)
+own_1 b e = rw (e, same_tag b 0 e)
 
-pub phase_2 : (b : List ℕ) → at b 0 ≡ 2 → then_some (phase_own b) (phase_of b) ≡ then_some (same 2 (replicate 6 0) b) (Command (at b 1))
+pub own_2 : (b : List ℕ) → at b 0 ≡ 2 → phase_own b ≡ same 2 (replicate 6 0) b
 unfolding phase_own phase_bytes phase_of
-phase_2 b e = rw (e, same_tag b 0 e, same_own b 1)
+own_2 b e = rw (e, same_tag b 0 e, same_own b 1)
 
-pub phase_3 : (b : List ℕ) → at b 0 ≡ 3 → at b 2 < 256 → then_some (phase_own b) (phase_of b)
-    ≡ then_some (part_own b) (Receive (part_of b) (at b 1) (joined (at b 2) (at b 3)))
+pub own_3 : (b : List ℕ) → at b 0 ≡ 3 → at b 2 < 256 → phase_own b ≡ part_own b
 unfolding part_own phase_own phase_bytes phase_of
-phase_3 b e h2 = rw (e, same_tag b 0 e, same_own b 1, low_joined, same_own b 2, high_joined, same_own b 3)
+own_3 b e h2 = rw (e, same_tag b 0 e, same_own b 1, low_joined, same_own b 2, high_joined, same_own b 3)
 
-pub phase_4 : (b : List ℕ) → at b 0 ≡ 4 → then_some (phase_own b) (phase_of b) ≡ then_some (same 1 (replicate 7 0) b) Closing
+pub own_4 : (b : List ℕ) → at b 0 ≡ 4 → phase_own b ≡ same 1 (replicate 7 0) b
 unfolding phase_own phase_bytes phase_of
-phase_4 b e = rw (e, same_tag b 0 e)
+own_4 b e = rw (e, same_tag b 0 e)
 
-pub phase_5 : (b : List ℕ) → at b 0 ≡ 5 → then_some (phase_own b) (phase_of b) ≡ then_some (same 1 (replicate 7 0) b) Ended
+pub own_5 : (b : List ℕ) → at b 0 ≡ 5 → phase_own b ≡ same 1 (replicate 7 0) b
 unfolding phase_own phase_bytes phase_of
-phase_5 b e = rw (e, same_tag b 0 e)
+own_5 b e = rw (e, same_tag b 0 e)
 
-pub phase_6 : (b : List ℕ) → at b 0 ≡ 6 → then_some (phase_own b) (phase_of b)
-    ≡ then_some (stop_own (at b 1) (at b 2) && same 3 (replicate 5 0) b) (Stopped (page_stop_of (at b 1) (at b 2)))
+pub own_6 : (b : List ℕ) → at b 0 ≡ 6 → phase_own b ≡ (stop_own (at b 1) (at b 2) && same 3 (replicate 5 0) b)
 unfolding stop_own phase_own phase_bytes phase_of
-phase_6 b e = rw (e, same_tag b 0 e, same_two b 1)
+own_6 b e = rw (e, same_tag b 0 e, same_two b 1)
 
-pub phase_none : (b : List ℕ) → at b 0 ≢ 0 → at b 0 ≢ 1 → at b 0 ≢ 2 → at b 0 ≢ 3 → at b 0 ≢ 4 → at b 0 ≢ 5 → at b 0 ≢ 6
-    → then_some (phase_own b) (phase_of b) ≡ None
+pub own_none : (b : List ℕ) → at b 0 ≢ 0 → at b 0 ≢ 1 → at b 0 ≢ 2 → at b 0 ≢ 3 → at b 0 ≢ 4 → at b 0 ≢ 5 → at b 0 ≢ 6 → phase_own b ≡ false
 unfolding phase_own phase_bytes phase_of
-phase_none b d0 d1 d2 d3 d4 d5 d6 =
+own_none b d0 d1 d2 d3 d4 d5 d6 =
     rw (ne_eqb _ _ d1, ne_eqb _ _ d2, ne_eqb _ _ d3, ne_eqb _ _ d4, ne_eqb _ _ d5, ne_eqb _ _ d6, same_not b 0 d0)
 
-pub ruleset phase_rows = (phase_0, phase_1, phase_2, phase_3, phase_4, phase_5, phase_6, phase_none)
+pub ruleset phase_rows = (own_0, own_1, own_2, own_3, own_4, own_5, own_6, own_none)
 
 -- ---- states
 
@@ -114,14 +107,24 @@ page = laws _ _ _ _ _ _ _ (omega arith) (λ b. refl) refl back
         let enum = phase_bytes s.phase in
         simp (phase_back s.phase, field 8 0 enum, field 8 1 enum, rest)
 
-pub page_read : (b : List ℕ) → length b ≡ 48
-    → then_some (is_page_state b) (page_read_of b) ≡ then_some (phase_own b && same 10 (replicate 6 0) b) (page_at b (phase_of b))
-unfolding is_page_state phase_own page_read_of page_read_bytes
-page_read b e = rw (page.judged b e, page.held b e, same_own b 8, same_own b 9)
+pub page_held_lem : (b : List ℕ) → length b ≡ 48 → page_read_of b ≡ page_at b (phase_of b)
+unfolding page_read_of
+page_held_lem b e = page.held b e
 
-pub page_none_lem : (b : List ℕ) → length b ≢ 48 → then_some (is_page_state b) (page_read_of b) ≡ None
+pub page_judged_lem : (b : List ℕ) → length b ≡ 48 → is_page_state b ≡ (phase_own b && same 10 (replicate 6 0) b)
+unfolding is_page_state phase_own page_read_of page_read_bytes
+page_judged_lem b e = rw (page.judged b e, same_own b 8, same_own b 9)
+
+-- bytes of another length
+pub page_other : (b : List ℕ) → length b ≢ 48 → page_read_of b ≡ page_none
+unfolding page_read_of
+page_other b d = rw (ne_eqb _ _ d)
+
+pub page_refused : (b : List ℕ) → length b ≢ 48 → is_page_state b ≡ false
 unfolding is_page_state is_copy
-page_none_lem b d = rw (ne_eqb _ _ d)
+page_refused b d = rw (ne_eqb _ _ d)
+
+pub ruleset state_rows = (page_held_lem, page_judged_lem, page_other, page_refused)
 
 pub page_packing : PagePacking
 unfolding page_read_bytes page_read_of is_page_state

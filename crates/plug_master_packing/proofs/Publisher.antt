@@ -1,13 +1,11 @@
 -- The publisher's state and its bytes.
 use Prim.Native.Nat.{ℕ, ◌<◌}
 use mathlib.Core.Path.{◌≡◌, refl, sym, ap}
-use mathlib.Core.Bool.{Bool, true, false, ◌&&◌}
+use mathlib.Core.Bool.{true, false, ◌&&◌}
 use mathlib.Core.List.{List, [], ◌∷◌, ◌++◌}
 use native.Mathlib.Omega.{arith}
-use lib.Dec.{eqb, ltb}
+use lib.Dec.{ltb}
 use borrow.Author.Tests.{ne_eqb}
-use Rattle.std.specs.Bool.{then_some}
-use Rattle.std.proofs.Common.{None}
 use mathlib.Core.Logic.{◌≢◌}
 use lib.ListN.{length, get_or, set, replicate}
 use Rattle.base_types.specs.Refusal.{number_of}
@@ -26,7 +24,7 @@ use Rattle.master_publisher.specs.declared.PublisherStop.TheVariants.{Redirectio
 use Rattle.master_publisher.specs.declared.Stage.{Stage}
 use Rattle.master_publisher.specs.declared.Stage.TheVariants.{Running, Done as Ended, Stopped}
 use Rattle.master_publisher.specs.declared.Publisher.{Publisher}
-use Rattle.plug_fields.specs.Fields.{joined, padded, front, same, rest_at, is_copy, mode_byte, value_of}
+use Rattle.plug_fields.specs.Fields.{padded, front, same, rest_at, is_copy, mode_byte, value_of}
 use Rattle.plug_master_packing.specs.Publisher.{stop_of, stage_bytes, stage_of, publisher_at, publisher_none, publisher_bytes, publisher_of, is_publisher_state, PublisherPacking}
 use Rattle.plug_master_packing.specs.Code.Publisher.{stop_own, stage_own}
 use Rattle.plug_fields.proofs.Laws.{stored, field, same_tag, same_not, same_own, same_one, same_two, low_joined, high_joined, flag_good, mode_good, mode_back, halves, Laws, laws}
@@ -57,30 +55,28 @@ stage_back (Running k false) fields rest = rw halves
 stage_back Ended fields rest = refl
 stage_back (Stopped stop) fields rest = ap Stopped (stop_back stop)
 
--- ---- the stage, by its tag
+-- ---- whether the stage's bytes are its own, by its tag
 
 abbrev at : List ℕ → ℕ → ℕ
 at b i = get_or b i 0
 
-pub stage_0 : (b : List ℕ) → at b 0 ≡ 0 → at b 1 < 256 → then_some (stage_own b) (stage_of b)
-    ≡ then_some (ltb (at b 3) 2 && same 4 (replicate 4 0) b) (Running (joined (at b 1) (at b 2)) (eqb (at b 3) 1))
+pub own_0 : (b : List ℕ) → at b 0 ≡ 0 → at b 1 < 256 → stage_own b ≡ (ltb (at b 3) 2 && same 4 (replicate 4 0) b)
 unfolding stage_own stage_bytes stage_of
-stage_0 b e h1 = rw (e, same_tag b 0 e, low_joined, same_own b 1, high_joined, same_own b 2, same_one b 3, flag_good)
+own_0 b e h1 = rw (e, same_tag b 0 e, low_joined, same_own b 1, high_joined, same_own b 2, same_one b 3, flag_good)
 
-pub stage_1 : (b : List ℕ) → at b 0 ≡ 1 → then_some (stage_own b) (stage_of b) ≡ then_some (same 1 (replicate 7 0) b) Ended
+pub own_1 : (b : List ℕ) → at b 0 ≡ 1 → stage_own b ≡ same 1 (replicate 7 0) b
 unfolding stage_own stage_bytes stage_of
-stage_1 b e = rw (e, same_tag b 0 e)
+own_1 b e = rw (e, same_tag b 0 e)
 
-pub stage_2 : (b : List ℕ) → at b 0 ≡ 2 → then_some (stage_own b) (stage_of b)
-    ≡ then_some (stop_own (at b 1) (at b 2) && same 3 (replicate 5 0) b) (Stopped (stop_of (at b 1) (at b 2)))
+pub own_2 : (b : List ℕ) → at b 0 ≡ 2 → stage_own b ≡ (stop_own (at b 1) (at b 2) && same 3 (replicate 5 0) b)
 unfolding stop_own stage_own stage_bytes stage_of
-stage_2 b e = rw (e, same_tag b 0 e, same_two b 1)
+own_2 b e = rw (e, same_tag b 0 e, same_two b 1)
 
-pub stage_none : (b : List ℕ) → at b 0 ≢ 0 → at b 0 ≢ 1 → at b 0 ≢ 2 → then_some (stage_own b) (stage_of b) ≡ None
+pub own_none : (b : List ℕ) → at b 0 ≢ 0 → at b 0 ≢ 1 → at b 0 ≢ 2 → stage_own b ≡ false
 unfolding stage_own stage_bytes stage_of
-stage_none b d0 d1 d2 = rw (ne_eqb _ _ d0, ne_eqb _ _ d2, same_not b 0 d1)
+own_none b d0 d1 d2 = rw (ne_eqb _ _ d0, ne_eqb _ _ d2, same_not b 0 d1)
 
-pub ruleset stage_rows = (stage_0, stage_1, stage_2, stage_none)
+pub ruleset stage_rows = (own_0, own_1, own_2, own_none)
 
 -- ---- states
 
@@ -97,16 +93,26 @@ publisher = laws _ _ _ _ _ _ _ (omega arith) (λ b. refl) refl back
         let kind = kind_back s.kind.mode s.kind.selection s.kind.placement in
         simp (stage_back s.stage, mode_back s.kind.mode, kind, field 8 0 enum, field 8 1 enum, field 8 2 enum, field 8 3 enum, rest)
 
-pub publisher_read : (b : List ℕ) → length b ≡ 48
-    → then_some (is_publisher_state b) (publisher_of b) ≡ then_some ((stage_own b && ltb (at b 11) 2) && same 12 (replicate 4 0) b) (publisher_at b (stage_of b))
-unfolding is_publisher_state stage_own publisher_of publisher_bytes
-publisher_read b e =
-    rw (publisher.judged b e, publisher.held b e, same_own b 8, same_own b 9, same_own b 10, same_one b 11, mode_good (at b 11))
-    (ap (λ (t : Bool). then_some t (publisher_at b (stage_of b))) (sym (and_assoc (stage_own b) (ltb (at b 11) 2) (same 12 (replicate 4 0) b))))
+pub publisher_held : (b : List ℕ) → length b ≡ 48 → publisher_of b ≡ publisher_at b (stage_of b)
+unfolding publisher_of
+publisher_held b e = publisher.held b e
 
-pub publisher_none_lem : (b : List ℕ) → length b ≢ 48 → then_some (is_publisher_state b) (publisher_of b) ≡ None
+pub publisher_judged_lem : (b : List ℕ) → length b ≡ 48 → is_publisher_state b ≡ ((stage_own b && ltb (at b 11) 2) && same 12 (replicate 4 0) b)
+unfolding is_publisher_state stage_own publisher_of publisher_bytes
+publisher_judged_lem b e =
+    rw (publisher.judged b e, same_own b 8, same_own b 9, same_own b 10, same_one b 11, mode_good (at b 11))
+    (sym (and_assoc (stage_own b) (ltb (at b 11) 2) (same 12 (replicate 4 0) b)))
+
+-- bytes of another length
+pub publisher_other : (b : List ℕ) → length b ≢ 48 → publisher_of b ≡ publisher_none
+unfolding publisher_of
+publisher_other b d = rw (ne_eqb _ _ d)
+
+pub publisher_refused : (b : List ℕ) → length b ≢ 48 → is_publisher_state b ≡ false
 unfolding is_publisher_state is_copy
-publisher_none_lem b d = rw (ne_eqb _ _ d)
+publisher_refused b d = rw (ne_eqb _ _ d)
+
+pub ruleset state_rows = (publisher_held, publisher_judged_lem, publisher_other, publisher_refused)
 
 pub publisher_packing : PublisherPacking
 unfolding publisher_bytes publisher_of is_publisher_state

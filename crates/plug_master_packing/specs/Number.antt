@@ -7,7 +7,7 @@ use Rattle.master_number.specs.declared.NumberRead.{NumberRead}
 use Rattle.master_number.specs.declared.NumberStop.{NumberStop}
 use Rattle.master_number.specs.declared.NumberStop.TheVariants.{NoPresence, Crc8, Family}
 use Rattle.master_number.specs.Number.{number_stop}
-use Rattle.plug_fields.specs.Fields.{front, rest_at, is_copy, Inverse, judged_by, unpacked_by, buffer_outcome, buffer_after, refusal_bytes}
+use Rattle.plug_fields.specs.Fields.{front, rest_at, is_copy, Inverse, judged_by, buffer_outcome, buffer_after, refusal_bytes}
 
 -- ---- the layout
 
@@ -55,10 +55,6 @@ is_number_state b = is_copy 24 (number_bytes (number_read_of b)) b
 -- 2, or accepted
 unfoldable pub number_judged : List ℕ → Outcome Done
 number_judged b = judged_by (is_number_state b)
-
--- 2, or the state
-unfoldable pub number_unpacked : List ℕ → Outcome NumberRead
-number_unpacked b = unpacked_by is_number_state number_read_of b
 
 -- a state into a buffer of 24 bytes: 10, or accepted; a refusal leaves the buffer
 unfoldable pub number_packed : List ℕ → Outcome Done

@@ -10,7 +10,7 @@ use Rattle.master_page.specs.declared.PageRead.{PageRead}
 use Rattle.master_page.specs.declared.PageStop.{PageStop}
 use Rattle.master_page.specs.declared.PageStop.TheVariants.{PageNumber, Loop, Outside, Crc16, NoPresence}
 use Rattle.master_page.specs.Page.{page_stop}
-use Rattle.plug_fields.specs.Fields.{word, joined, front, rest_at, is_copy, Inverse, judged_by, unpacked_by, buffer_outcome, buffer_after, refusal_bytes}
+use Rattle.plug_fields.specs.Fields.{word, joined, front, rest_at, is_copy, Inverse, judged_by, buffer_outcome, buffer_after, refusal_bytes}
 
 -- ---- the layout
 
@@ -76,10 +76,6 @@ is_page_state b = is_copy 48 (page_read_bytes (page_read_of b)) b
 -- 2, or accepted
 unfoldable pub page_judged : List ℕ → Outcome Done
 page_judged b = judged_by (is_page_state b)
-
--- 2, or the state
-unfoldable pub page_unpacked : List ℕ → Outcome PageRead
-page_unpacked b = unpacked_by is_page_state page_read_of b
 
 -- a state into a buffer of 48 bytes: 10, or accepted; a refusal leaves the buffer
 unfoldable pub page_packed : List ℕ → Outcome Done

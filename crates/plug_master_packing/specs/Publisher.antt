@@ -11,7 +11,7 @@ use Rattle.master_publisher.specs.Stop.{publisher_refusal}
 use Rattle.master_publisher.specs.declared.PublisherStop.{PublisherStop}
 use Rattle.master_publisher.specs.declared.PublisherStop.TheVariants.{ImageLength, PageNumber, Loop, Outside, Crc16, ReadBack, NoFreePage}
 use Rattle.master_publisher.specs.declared.PublisherStop.TheVariants.{RedirectionProtected, BufferLength, NoPresence, DataProtected}
-use Rattle.plug_fields.specs.Fields.{word, joined, front, rest_at, is_copy, Inverse, judged_by, unpacked_by, buffer_outcome, buffer_after, mode_byte, mode_of}
+use Rattle.plug_fields.specs.Fields.{word, joined, front, rest_at, is_copy, Inverse, judged_by, buffer_outcome, buffer_after, mode_byte, mode_of}
 use Rattle.plug_fields.specs.Fields.{refusal_bytes}
 
 -- ---- the layout
@@ -72,10 +72,6 @@ is_publisher_state b = is_copy 48 (publisher_bytes (publisher_of b)) b
 -- 2, or accepted
 unfoldable pub publisher_judged : List ℕ → Outcome Done
 publisher_judged b = judged_by (is_publisher_state b)
-
--- 2, or the state
-unfoldable pub publisher_unpacked : List ℕ → Outcome Publisher
-publisher_unpacked b = unpacked_by is_publisher_state publisher_of b
 
 -- a state into a buffer of 48 bytes: 10, or accepted; a refusal leaves the buffer
 unfoldable pub publisher_packed : List ℕ → Outcome Done

@@ -1,13 +1,13 @@
 // The number read's state as 24 bytes: specs/Number.antt has the layout.
 ghost use Rattle.std.specs.Prelude.{◌≡◌, true, []};
-ghost use Rattle.std.specs.Bool.{then_some};
 ghost use Rattle.base_types.specs.Outcome.{outcome_of};
 ghost use Rattle.plug_fields.specs.Fields.{front};
-ghost use Rattle.plug_master_packing.specs.Number.{phase_bytes, number_stop_of, phase_of, number_bytes, number_read_of, is_number_state, number_unpacked};
+ghost use Rattle.plug_master_packing.specs.Number.{phase_bytes, number_stop_of, phase_of, number_bytes, number_read_of, is_number_state, number_judged};
 ghost use Rattle.plug_master_packing.specs.Number.{number_packed, number_buffer};
 ghost use Rattle.plug_master_packing.specs.Code.Number.{stop_own, phase_own};
 
 use base_types::refusal::Refusal;
+use base_types::stepped::Stepped;
 use master_number::{NumberRead, NumberStop, Phase};
 use plug_fields::{padded, zeros};
 
@@ -29,55 +29,69 @@ fn front_of(phase: Phase) -> [u8; 16]
     }
 }
 
-// What stopped a read, if it is told by this number and value.
+// What stopped a read, by the number told (another number counts as 13), and whether the number and the value are its own.
 #[tactic(auto, unfolding(crate::specs::Code::Number::stop_own, crate::specs::Number::number_stop_of, plug_fields::specs::Fields::value_of))]
-fn stop_of(number: u8, value: u8) -> Option<NumberStop>
-    ensures { result ≡ then_some (stop_own number value) (number_stop_of number) }
+fn stop_of(number: u8, value: u8) -> (NumberStop, bool)
+    ensures stop { result.0 ≡ number_stop_of number }
+    ensures own { result.1 ≡ stop_own number value }
 {
-    match (number, value) {
-        (13, 0) => Some(NumberStop::NoPresence),
-        (14, 0) => Some(NumberStop::Crc8),
-        (15, 0) => Some(NumberStop::Family),
-        _ => None,
+    match number {
+        13 => (NumberStop::NoPresence, value == 0),
+        14 => (NumberStop::Crc8, value == 0),
+        15 => (NumberStop::Family, value == 0),
+        _ => (NumberStop::NoPresence, false),
     }
 }
 
-// The phase, if its eight bytes are its own.
-#[tactic(auto, using(crate::proofs::Number::phase_rows))]
-fn phase_of(b: &[u8; 24]) -> Option<Phase>
-    ensures { result ≡ then_some (phase_own b.now) (phase_of b.now) }
+// The phase of any bytes (a tag that is that of none counts as another one), and whether its eight bytes are its own.
+#[tactic(auto, using(crate::proofs::Number::phase_rows), unfolding(crate::specs::Number::phase_of))]
+fn phase_of(b: &[u8; 24]) -> (Phase, bool)
+    ensures phase { result.0 ≡ phase_of b.now }
+    ensures own { result.1 ≡ phase_own b.now }
 {
     match b[0] {
-        0 => zeros(b, 1, 8).then_some(Phase::Begin),
-        1 => zeros(b, 1, 8).then_some(Phase::Presence),
-        2 => zeros(b, 2, 8).then_some(Phase::Command(b[1])),
-        3 => zeros(b, 4, 8).then_some(Phase::Receive(b[1], b[2], b[3])),
-        4 => zeros(b, 1, 8).then_some(Phase::Closing),
-        5 => zeros(b, 1, 8).then_some(Phase::Done),
-        6 => zeros(b, 3, 8).then_some(Phase::Stopped(stop_of(b[1], b[2])?)),
-        _ => None,
+        0 => (Phase::Begin, zeros(b, 1, 8)),
+        1 => (Phase::Presence, zeros(b, 1, 8)),
+        2 => (Phase::Command(b[1]), zeros(b, 2, 8)),
+        3 => (Phase::Receive(b[1], b[2], b[3]), zeros(b, 4, 8)),
+        4 => (Phase::Closing, zeros(b, 1, 8)),
+        5 => (Phase::Done, zeros(b, 1, 8)),
+        6 => {
+            let (stop, own) = stop_of(b[1], b[2]);
+            (Phase::Stopped(stop), own && zeros(b, 3, 8))
+        }
+        _ => (Phase::Begin, false),
     }
 }
 
 // ---- the entries
 
-#[tactic(auto, using(crate::proofs::Number::number_read, crate::proofs::Number::number_none_lem))]
-fn state_of(bytes: &[u8]) -> Option<NumberRead>
-    ensures { result ≡ then_some (is_number_state bytes.now) (number_read_of bytes.now) }
+// The state of 24 bytes, and of any others. Refused: 2 for bytes of another length and for bytes that are those of no state. A state out
+// of its ranges is no matter here: the number read refuses it.
+#[tactic(auto, using(crate::proofs::Number::state_rows), unfolding(crate::specs::Number::number_judged))]
+pub fn unpack(bytes: &[u8]) -> Stepped<Result<(), Refusal>, NumberRead>
+    ensures judged { outcome_of result.answer ≡ number_judged bytes.now }
+    ensures state { result.state ≡ number_read_of bytes.now }
 {
-    let b = <&[u8; 24]>::try_from(bytes).ok()?;
-    let phase = phase_of(b)?;
-    let bytes = plug_fields::rest_of(b);
-    zeros(b, 8, 16).then_some(NumberRead { phase, bytes })
-}
-
-// The state of 24 bytes. Refused: 2 for bytes of another length and for bytes that are those of no state. A state out of its ranges
-// is no matter here: the number read refuses it.
-#[tactic(auto, unfolding(crate::specs::Number::number_unpacked))]
-pub fn unpack(bytes: &[u8]) -> Result<NumberRead, Refusal>
-    ensures { outcome_of result ≡ number_unpacked bytes.now }
-{
-    state_of(bytes).ok_or(Refusal::StateRange)
+    let Ok(b) = <&[u8; 24]>::try_from(bytes) else {
+        return Stepped {
+            answer: Err(Refusal::StateRange),
+            state: NumberRead {
+                phase: Phase::Begin,
+                bytes: [0; 8],
+            },
+        };
+    };
+    let (phase, own) = phase_of(b);
+    let state = NumberRead {
+        phase,
+        bytes: plug_fields::rest_of(b),
+    };
+    let all = own && zeros(b, 8, 16);
+    Stepped {
+        answer: all.then_some(()).ok_or(Refusal::StateRange),
+        state,
+    }
 }
 
 // A state into a buffer of 24 bytes. Refused: 10. What is left there holds that state and is accepted by unpack.
@@ -88,5 +102,7 @@ pub fn pack(state: NumberRead, bytes: &mut [u8]) -> Result<(), Refusal>
     ensures back { number_read_of (number_bytes state) ≡ state }
     ensures kept { is_number_state (number_bytes state) ≡ true }
 {
-    plug_fields::put(front_of(state.phase), &state.bytes, bytes)
+    // By a name of its own: the loan of a part copied the whole state.
+    let received = state.bytes;
+    plug_fields::put(front_of(state.phase), &received, bytes)
 }

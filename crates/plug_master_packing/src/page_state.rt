@@ -1,14 +1,14 @@
 // The page read's state as 48 bytes: specs/Page.antt has the layout.
 ghost use Rattle.std.specs.Prelude.{◌≡◌, true, []};
-ghost use Rattle.std.specs.Bool.{then_some};
 ghost use Rattle.base_types.specs.Outcome.{outcome_of};
 ghost use Rattle.plug_fields.specs.Fields.{front};
-ghost use Rattle.plug_master_packing.specs.Page.{phase_bytes, part_of, page_stop_of, phase_of, page_read_bytes, page_read_of, is_page_state, page_unpacked};
+ghost use Rattle.plug_master_packing.specs.Page.{phase_bytes, part_of, page_stop_of, phase_of, page_read_bytes, page_read_of, is_page_state, page_judged};
 ghost use Rattle.plug_master_packing.specs.Page.{page_packed, page_buffer};
 ghost use Rattle.plug_master_packing.specs.Code.Page.{part_own, stop_own, phase_own};
 
 use base_types::address::{Page, Redirection};
 use base_types::refusal::Refusal;
+use base_types::stepped::Stepped;
 use master_page::{PageRead, PageStop, Part, Phase};
 use plug_fields::{join, padded, word, zeros};
 
@@ -38,74 +38,93 @@ fn front_of(phase: Phase) -> [u8; 16]
     }
 }
 
-// What stopped a read, if it is told by this number and value.
+// What stopped a read, by the number told and its value (another number counts as 13), and whether both are its own.
 #[tactic(auto, unfolding(crate::specs::Code::Page::stop_own, crate::specs::Page::page_stop_of, plug_fields::specs::Fields::value_of))]
-fn stop_of(number: u8, value: u8) -> Option<PageStop>
-    ensures { result ≡ then_some (stop_own number value) (page_stop_of number value) }
+fn stop_of(number: u8, value: u8) -> (PageStop, bool)
+    ensures stop { result.0 ≡ page_stop_of number value }
+    ensures own { result.1 ≡ stop_own number value }
 {
-    match (number, value) {
-        (3, 0) => Some(PageStop::PageNumber),
-        (4, 0) => Some(PageStop::Loop),
-        (5, x) => Some(PageStop::Outside(x)),
-        (6, 0) => Some(PageStop::Crc16),
-        (13, 0) => Some(PageStop::NoPresence),
-        _ => None,
+    match number {
+        3 => (PageStop::PageNumber, value == 0),
+        4 => (PageStop::Loop, value == 0),
+        5 => (PageStop::Outside(value), true),
+        6 => (PageStop::Crc16, value == 0),
+        13 => (PageStop::NoPresence, value == 0),
+        _ => (PageStop::NoPresence, false),
     }
 }
 
-// The part and the phase, each if the bytes from its place to the end of the phase's eight are its own.
-#[tactic(auto, using(crate::proofs::Page::part_rows))]
-fn part_of(b: &[u8; 48]) -> Option<Part>
-    ensures { result ≡ then_some (part_own b.now) (part_of b.now) }
+// The part and the phase of any bytes (a tag that is that of none counts as another one), each with whether the bytes from its place to
+// the end of the phase's eight are its own.
+#[tactic(auto, using(crate::proofs::Page::part_rows), unfolding(crate::specs::Page::part_of))]
+fn part_of(b: &[u8; 48]) -> (Part, bool)
+    ensures part { result.0 ≡ part_of b.now }
+    ensures own { result.1 ≡ part_own b.now }
 {
     match b[4] {
-        0 => zeros(b, 5, 8).then_some(Part::Redirection),
-        1 => zeros(b, 6, 8).then_some(Part::RedirectionCrc(Redirection(b[5]))),
-        2 => zeros(b, 6, 8).then_some(Part::Data(b[5])),
-        3 => zeros(b, 5, 8).then_some(Part::DataCrc),
-        _ => None,
+        0 => (Part::Redirection, zeros(b, 5, 8)),
+        1 => (Part::RedirectionCrc(Redirection(b[5])), zeros(b, 6, 8)),
+        2 => (Part::Data(b[5]), zeros(b, 6, 8)),
+        3 => (Part::DataCrc, zeros(b, 5, 8)),
+        _ => (Part::DataCrc, false),
     }
 }
 
-#[tactic(auto, using(crate::proofs::Page::phase_rows))]
-fn phase_of(b: &[u8; 48]) -> Option<Phase>
-    ensures { result ≡ then_some (phase_own b.now) (phase_of b.now) }
+#[tactic(auto, using(crate::proofs::Page::phase_rows), unfolding(crate::specs::Page::phase_of))]
+fn phase_of(b: &[u8; 48]) -> (Phase, bool)
+    ensures phase { result.0 ≡ phase_of b.now }
+    ensures own { result.1 ≡ phase_own b.now }
 {
     match b[0] {
-        0 => zeros(b, 1, 8).then_some(Phase::Begin),
-        1 => zeros(b, 1, 8).then_some(Phase::Presence),
-        2 => zeros(b, 2, 8).then_some(Phase::Command(b[1])),
-        3 => Some(Phase::Receive(part_of(b)?, b[1], join(b[2], b[3]))),
-        4 => zeros(b, 1, 8).then_some(Phase::Closing),
-        5 => zeros(b, 1, 8).then_some(Phase::Done),
-        6 => zeros(b, 3, 8).then_some(Phase::Stopped(stop_of(b[1], b[2])?)),
-        _ => None,
+        0 => (Phase::Begin, zeros(b, 1, 8)),
+        1 => (Phase::Presence, zeros(b, 1, 8)),
+        2 => (Phase::Command(b[1]), zeros(b, 2, 8)),
+        3 => {
+            let (part, own) = part_of(b);
+            (Phase::Receive(part, b[1], join(b[2], b[3])), own)
+        }
+        4 => (Phase::Closing, zeros(b, 1, 8)),
+        5 => (Phase::Done, zeros(b, 1, 8)),
+        6 => {
+            let (stop, own) = stop_of(b[1], b[2]);
+            (Phase::Stopped(stop), own && zeros(b, 3, 8))
+        }
+        _ => (Phase::Begin, false),
     }
 }
 
 // ---- the entries
 
-#[tactic(auto, using(crate::proofs::Page::page_read, crate::proofs::Page::page_none_lem))]
-fn state_of(bytes: &[u8]) -> Option<PageRead>
-    ensures { result ≡ then_some (is_page_state bytes.now) (page_read_of bytes.now) }
+// The state of 48 bytes, and of any others. Refused: 2 for bytes of another length and for bytes that are those of no state. A state out
+// of its ranges is no matter here: the page read refuses it.
+#[tactic(auto, using(crate::proofs::Page::state_rows), unfolding(crate::specs::Page::page_judged))]
+pub fn unpack(bytes: &[u8]) -> Stepped<Result<(), Refusal>, PageRead>
+    ensures judged { outcome_of result.answer ≡ page_judged bytes.now }
+    ensures state { result.state ≡ page_read_of bytes.now }
 {
-    let b = <&[u8; 48]>::try_from(bytes).ok()?;
+    let Ok(b) = <&[u8; 48]>::try_from(bytes) else {
+        return Stepped {
+            answer: Err(Refusal::StateRange),
+            state: PageRead {
+                phase: Phase::Begin,
+                page: Page(0),
+                hops: 0,
+                bytes: [0; 32],
+            },
+        };
+    };
+    let (phase, own) = phase_of(b);
     let state = PageRead {
-        phase: phase_of(b)?,
+        phase,
         page: Page(b[8]),
         hops: b[9],
         bytes: plug_fields::rest_of(b),
     };
-    zeros(b, 10, 16).then_some(state)
-}
-
-// The state of 48 bytes. Refused: 2 for bytes of another length and for bytes that are those of no state. A state out of its ranges
-// is no matter here: the page read refuses it.
-#[tactic(auto, unfolding(crate::specs::Page::page_unpacked))]
-pub fn unpack(bytes: &[u8]) -> Result<PageRead, Refusal>
-    ensures { outcome_of result ≡ page_unpacked bytes.now }
-{
-    state_of(bytes).ok_or(Refusal::StateRange)
+    let all = own && zeros(b, 10, 16);
+    Stepped {
+        answer: all.then_some(()).ok_or(Refusal::StateRange),
+        state,
+    }
 }
 
 // A state into a buffer of 48 bytes. Refused: 10. What is left there holds that state and is accepted by unpack.
@@ -119,5 +138,7 @@ pub fn pack(state: PageRead, bytes: &mut [u8]) -> Result<(), Refusal>
     let mut front = front_of(state.phase);
     front[8] = state.page.0;
     front[9] = state.hops;
-    plug_fields::put(front, &state.bytes, bytes)
+    // By a name of its own: the loan of a part copied the whole state.
+    let received = state.bytes;
+    plug_fields::put(front, &received, bytes)
 }

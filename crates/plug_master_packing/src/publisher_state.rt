@@ -1,17 +1,17 @@
 // The publisher's state as 48 bytes: specs/Publisher.antt has the layout.
 ghost use Rattle.std.specs.Prelude.{◌≡◌, true, []};
-ghost use Rattle.std.specs.Bool.{then_some};
 ghost use Rattle.base_types.specs.Outcome.{outcome_of};
 ghost use Rattle.plug_fields.specs.Fields.{front};
-ghost use Rattle.plug_master_packing.specs.Publisher.{stop_of, stage_bytes, stage_of, publisher_bytes, publisher_of, is_publisher_state, publisher_unpacked};
+ghost use Rattle.plug_master_packing.specs.Publisher.{stop_of, stage_bytes, stage_of, publisher_bytes, publisher_of, is_publisher_state, publisher_judged};
 ghost use Rattle.plug_master_packing.specs.Publisher.{publisher_packed, publisher_buffer};
 ghost use Rattle.plug_master_packing.specs.Code.Publisher.{stop_own, stage_own};
 
 use base_types::address::Page;
 use base_types::refusal::Refusal;
+use base_types::stepped::Stepped;
 use master_plan::kind;
 use master_publisher::{Publisher, PublisherStop, Stage};
-use plug_fields::{join, mode_byte, padded, some_mode, word, zeros};
+use plug_fields::{join, mode_byte, mode_of, padded, some_mode, word, zeros};
 
 #[tactic(auto, unfolding(crate::specs::Publisher::stage_bytes))]
 fn front_of(stage: Stage) -> [u8; 16]
@@ -30,65 +30,84 @@ fn front_of(stage: Stage) -> [u8; 16]
     }
 }
 
-// What stopped it, if it is told by this number and value.
+// What stopped it, of a refusal's number and value (a number that is that of none counts as 1), and whether both are its own.
 #[tactic(auto, unfolding(crate::specs::Code::Publisher::stop_own, crate::specs::Publisher::stop_of, plug_fields::specs::Fields::value_of))]
-fn stop_of(number: u8, value: u8) -> Option<PublisherStop>
-    ensures { result ≡ then_some (stop_own number value) (stop_of number value) }
+fn stop_of(number: u8, value: u8) -> (PublisherStop, bool)
+    ensures stop { result.0 ≡ stop_of number value }
+    ensures own { result.1 ≡ stop_own number value }
 {
-    match (number, value) {
-        (1, 0) => Some(PublisherStop::ImageLength),
-        (3, 0) => Some(PublisherStop::PageNumber),
-        (4, 0) => Some(PublisherStop::Loop),
-        (5, x) => Some(PublisherStop::Outside(x)),
-        (6, 0) => Some(PublisherStop::Crc16),
-        (7, 0) => Some(PublisherStop::ReadBack),
-        (8, 0) => Some(PublisherStop::NoFreePage),
-        (9, l) => Some(PublisherStop::RedirectionProtected(Page(l))),
-        (10, 0) => Some(PublisherStop::BufferLength),
-        (13, 0) => Some(PublisherStop::NoPresence),
-        (20, l) => Some(PublisherStop::DataProtected(Page(l))),
-        _ => None,
+    match number {
+        1 => (PublisherStop::ImageLength, value == 0),
+        3 => (PublisherStop::PageNumber, value == 0),
+        4 => (PublisherStop::Loop, value == 0),
+        5 => (PublisherStop::Outside(value), true),
+        6 => (PublisherStop::Crc16, value == 0),
+        7 => (PublisherStop::ReadBack, value == 0),
+        8 => (PublisherStop::NoFreePage, value == 0),
+        9 => (PublisherStop::RedirectionProtected(Page(value)), true),
+        10 => (PublisherStop::BufferLength, value == 0),
+        13 => (PublisherStop::NoPresence, value == 0),
+        20 => (PublisherStop::DataProtected(Page(value)), true),
+        _ => (PublisherStop::ImageLength, false),
     }
 }
 
-// The stage, if its eight bytes are its own.
-#[tactic(auto, using(crate::proofs::Publisher::stage_rows))]
-fn stage_of(b: &[u8; 48]) -> Option<Stage>
-    ensures { result ≡ then_some (stage_own b.now) (stage_of b.now) }
+// The stage of any bytes (a tag that is that of none counts as another one), and whether its eight bytes are its own.
+#[tactic(auto, using(crate::proofs::Publisher::stage_rows), unfolding(crate::specs::Publisher::stage_of))]
+fn stage_of(b: &[u8; 48]) -> (Stage, bool)
+    ensures stage { result.0 ≡ stage_of b.now }
+    ensures own { result.1 ≡ stage_own b.now }
 {
     match b[0] {
-        0 => (b[3] < 2 && zeros(b, 4, 8)).then_some(Stage::Running(join(b[1], b[2]), b[3] == 1)),
-        1 => zeros(b, 1, 8).then_some(Stage::Done),
-        2 => zeros(b, 3, 8).then_some(Stage::Stopped(stop_of(b[1], b[2])?)),
-        _ => None,
+        0 => (
+            Stage::Running(join(b[1], b[2]), b[3] == 1),
+            b[3] < 2 && zeros(b, 4, 8),
+        ),
+        1 => (Stage::Done, zeros(b, 1, 8)),
+        2 => {
+            let (stop, own) = stop_of(b[1], b[2]);
+            (Stage::Stopped(stop), own && zeros(b, 3, 8))
+        }
+        _ => (Stage::Done, false),
     }
 }
 
 // ---- the entries
 
-#[tactic(auto, using(crate::proofs::Publisher::publisher_read, crate::proofs::Publisher::publisher_none_lem))]
-fn state_of(bytes: &[u8]) -> Option<Publisher>
-    ensures { result ≡ then_some (is_publisher_state bytes.now) (publisher_of bytes.now) }
+// The state of 48 bytes, and of any others. Refused: 2 for bytes of another length and for bytes that are those of no state. A state out
+// of its ranges is no matter here: the publisher refuses it.
+#[tactic(auto, using(crate::proofs::Publisher::state_rows), unfolding(crate::specs::Publisher::publisher_judged))]
+pub fn unpack(bytes: &[u8]) -> Stepped<Result<(), Refusal>, Publisher>
+    ensures judged { outcome_of result.answer ≡ publisher_judged bytes.now }
+    ensures state { result.state ≡ publisher_of bytes.now }
 {
-    let b = <&[u8; 48]>::try_from(bytes).ok()?;
+    let Ok(b) = <&[u8; 48]>::try_from(bytes) else {
+        return Stepped {
+            answer: Err(Refusal::StateRange),
+            state: Publisher {
+                kind: kind::ordinary(),
+                stage: Stage::Done,
+                superseded: Page(0),
+                target: Page(0),
+                used: 0,
+                new: [0; 32],
+            },
+        };
+    };
+    let (stage, own) = stage_of(b);
     let state = Publisher {
-        kind: kind::of_mode(some_mode(b[11])?),
-        stage: stage_of(b)?,
+        kind: kind::of_mode(mode_of(b[11])),
+        stage,
         superseded: Page(b[8]),
         target: Page(b[9]),
         used: b[10],
         new: plug_fields::rest_of(b),
     };
-    zeros(b, 12, 16).then_some(state)
-}
-
-// The state of 48 bytes. Refused: 2 for bytes of another length and for bytes that are those of no state. A state out of its ranges
-// is no matter here: the publisher refuses it.
-#[tactic(auto, unfolding(crate::specs::Publisher::publisher_unpacked))]
-pub fn unpack(bytes: &[u8]) -> Result<Publisher, Refusal>
-    ensures { outcome_of result ≡ publisher_unpacked bytes.now }
-{
-    state_of(bytes).ok_or(Refusal::StateRange)
+    let all = own && some_mode(b[11]).is_some() && zeros(b, 12, 16);
+    Stepped {
+        answer: all.then_some(()).ok_or(Refusal::StateRange),
+        state,
+    }
 }
 
 // A state into a buffer of 48 bytes. Refused: 10. What is left there holds that state and is accepted by unpack.
@@ -104,5 +123,7 @@ pub fn pack(state: Publisher, bytes: &mut [u8]) -> Result<(), Refusal>
     front[9] = state.target.0;
     front[10] = state.used;
     front[11] = mode_byte(state.kind.mode);
-    plug_fields::put(front, &state.new, bytes)
+    // By a name of its own: the loan of a part copied the whole state.
+    let new = state.new;
+    plug_fields::put(front, &new, bytes)
 }

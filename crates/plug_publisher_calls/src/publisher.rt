@@ -1,5 +1,5 @@
 // The publisher: fed a list of replies, and step by step with its state in 48 bytes that the caller lends.
-#![tactic(auto, using(crate::proofs::Starts::starts, crate::proofs::Starts::choice_same), unfolding(crate::specs::Publisher::publisher_run_judged, crate::specs::Publisher::publisher_run_outcome, crate::specs::Publisher::publisher_run_events, master_runs::specs::Publisher::publisher_fed_judged, master_runs::specs::Publisher::publisher_fed_outcome, master_runs::specs::Publisher::publisher_fed_events, crate::specs::Publisher::publisher_started, crate::specs::Publisher::publisher_start_state, plug_master_packing::specs::Publisher::publisher_packed, plug_fields::specs::Fields::buffer_outcome, crate::specs::Publisher::publisher_call_judged, crate::specs::Publisher::publisher_call_outcome, crate::specs::Publisher::publisher_call_state, plug_answers::specs::Calls::reply_judged, plug_master_packing::specs::Publisher::publisher_judged, plug_master_packing::specs::Publisher::is_publisher_state, plug_fields::specs::Fields::is_copy, plug_master_packing::specs::Publisher::publisher_unpacked))]
+#![tactic(auto, using(crate::proofs::Starts::starts, crate::proofs::Starts::choice_same), unfolding(crate::specs::Publisher::publisher_run_judged, crate::specs::Publisher::publisher_run_outcome, crate::specs::Publisher::publisher_run_events, master_runs::specs::Publisher::publisher_fed_judged, master_runs::specs::Publisher::publisher_fed_outcome, master_runs::specs::Publisher::publisher_fed_events, crate::specs::Publisher::publisher_started, crate::specs::Publisher::publisher_start_state, plug_master_packing::specs::Publisher::publisher_packed, plug_fields::specs::Fields::buffer_outcome, crate::specs::Publisher::publisher_call_judged, crate::specs::Publisher::publisher_call_outcome, crate::specs::Publisher::publisher_call_state, plug_answers::specs::Calls::reply_judged, plug_master_packing::specs::Publisher::publisher_judged, plug_master_packing::specs::Publisher::is_publisher_state, plug_fields::specs::Fields::is_copy))]
 
 ghost use Rattle.std.specs.Prelude.{◌≡◌};
 ghost use Rattle.base_types.specs.Outcome.{outcome_of};
@@ -66,7 +66,9 @@ pub fn call(state: &mut [u8], reply: u32, answer: &[u8]) -> Result<Next<(Page, P
     ensures told { turn_outcome result ≡ publisher_call_outcome 64 state.old reply answer.now }
     ensures state { state.new ≡ publisher_call_state 64 state.old reply answer.now }
 {
-    let before = publisher_state::unpack(state)?;
+    let held = publisher_state::unpack(state);
+    held.answer?;
+    let before = held.state;
     calls::judge_reply(
         master_publisher::in_range(layout::DS2505, before),
         reply,

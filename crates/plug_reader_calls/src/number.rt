@@ -1,5 +1,5 @@
 // The number read: fed a list of replies, and step by step with its state in 24 bytes that the caller lends.
-#![tactic(auto, unfolding(crate::specs::Number::number_run_judged, crate::specs::Number::number_run_outcome, crate::specs::Number::number_run_events, master_runs::specs::Number::number_fed_judged, master_runs::specs::Number::number_fed_outcome, master_runs::specs::Number::number_fed_events, master_number::specs::NumberRead::number_phase_in_range, crate::specs::Number::number_call_judged, crate::specs::Number::number_call_outcome, crate::specs::Number::number_call_state, plug_answers::specs::Calls::reply_judged, plug_master_packing::specs::Number::number_judged, plug_master_packing::specs::Number::is_number_state, plug_fields::specs::Fields::is_copy, plug_master_packing::specs::Number::number_packed, plug_fields::specs::Fields::buffer_outcome, plug_master_packing::specs::Number::number_unpacked))]
+#![tactic(auto, unfolding(crate::specs::Number::number_run_judged, crate::specs::Number::number_run_outcome, crate::specs::Number::number_run_events, master_runs::specs::Number::number_fed_judged, master_runs::specs::Number::number_fed_outcome, master_runs::specs::Number::number_fed_events, master_number::specs::NumberRead::number_phase_in_range, crate::specs::Number::number_call_judged, crate::specs::Number::number_call_outcome, crate::specs::Number::number_call_state, plug_answers::specs::Calls::reply_judged, plug_master_packing::specs::Number::number_judged, plug_master_packing::specs::Number::is_number_state, plug_fields::specs::Fields::is_copy, plug_master_packing::specs::Number::number_packed, plug_fields::specs::Fields::buffer_outcome))]
 
 ghost use Rattle.std.specs.Prelude.{◌≡◌};
 ghost use Rattle.base_types.specs.Outcome.{outcome_of};
@@ -36,7 +36,9 @@ pub fn call(state: &mut [u8], reply: u32, answer: &[u8]) -> Result<Next<[u8; 8]>
     ensures told { answer_outcome result ≡ number_call_outcome state.old reply answer.now }
     ensures state { state.new ≡ number_call_state state.old reply answer.now }
 {
-    let before = number_state::unpack(state)?;
+    let held = number_state::unpack(state);
+    held.answer?;
+    let before = held.state;
     calls::judge_reply(master_number::in_range(before), reply, answer)?;
     let stepped = master_number::call(before, reply == 1);
     number_state::pack(stepped.state, state)?;

@@ -1,5 +1,5 @@
 // The page read: fed a list of replies, and step by step with its state in 48 bytes that the caller lends.
-#![tactic(auto, using(crate::proofs::Pages::starts, crate::proofs::Pages::start_same, crate::proofs::Pages::state_same, crate::proofs::Pages::page_same), unfolding(crate::specs::Page::page_run_judged, crate::specs::Page::page_run_outcome, crate::specs::Page::page_run_events, crate::specs::Page::page_run_buffer, master_runs::specs::Page::page_fed_judged, master_runs::specs::Page::page_fed_outcome, master_runs::specs::Page::page_fed, master_runs::specs::Page::page_fed_events, crate::specs::Page::page_start_judged, crate::specs::Page::page_start_state, plug_master_packing::specs::Page::page_packed, plug_fields::specs::Fields::buffer_outcome, master_page::specs::PageRead::start_answer, crate::specs::Page::page_call_judged, crate::specs::Page::page_call_outcome, crate::specs::Page::page_call_state, crate::specs::Page::page_call_buffer, plug_answers::specs::Calls::reply_judged, plug_master_packing::specs::Page::page_judged, plug_master_packing::specs::Page::is_page_state, plug_fields::specs::Fields::is_copy, plug_master_packing::specs::Page::page_unpacked))]
+#![tactic(auto, using(crate::proofs::Pages::starts, crate::proofs::Pages::start_same, crate::proofs::Pages::state_same, crate::proofs::Pages::page_same), unfolding(crate::specs::Page::page_run_judged, crate::specs::Page::page_run_outcome, crate::specs::Page::page_run_events, crate::specs::Page::page_run_buffer, master_runs::specs::Page::page_fed_judged, master_runs::specs::Page::page_fed_outcome, master_runs::specs::Page::page_fed, master_runs::specs::Page::page_fed_events, crate::specs::Page::page_start_judged, crate::specs::Page::page_start_state, plug_master_packing::specs::Page::page_packed, plug_fields::specs::Fields::buffer_outcome, master_page::specs::PageRead::start_answer, crate::specs::Page::page_call_judged, crate::specs::Page::page_call_outcome, crate::specs::Page::page_call_state, crate::specs::Page::page_call_buffer, plug_answers::specs::Calls::reply_judged, plug_master_packing::specs::Page::page_judged, plug_master_packing::specs::Page::is_page_state, plug_fields::specs::Fields::is_copy))]
 
 ghost use Rattle.std.specs.Prelude.{◌≡◌};
 ghost use Rattle.base_types.specs.Outcome.{outcome_of};
@@ -57,7 +57,9 @@ pub fn call(
     ensures state { state.new ≡ page_call_state 64 state.old reply buffer.old answer.now }
     ensures buffer { buffer.new ≡ page_call_buffer 64 state.old reply buffer.old answer.now }
 {
-    let before = page_state::unpack(state)?;
+    let held = page_state::unpack(state);
+    held.answer?;
+    let before = held.state;
     calls::judge_reply(master_page::in_range(layout::DS2505, before), reply, answer)?;
     let stepped = master_page::call(before, reply == 1, buffer);
     page_state::pack(stepped.state, state)?;

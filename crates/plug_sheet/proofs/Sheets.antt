@@ -11,7 +11,8 @@ use lib.Seq.{drop-drop, take_all, take_at, drop_at}
 use borrow.Author.Tests.{eqb-true, eq-eqb}
 use Rattle.std.specs.List.{list_all, range_with_len}
 use Rattle.base_types.specs.Scan.{every}
-use Rattle.base_types.specs.Outcome.{accepted, Done, done, judge}
+use Rattle.base_types.specs.declared.refusal.Refusal.{Refusal}
+use Rattle.base_types.specs.Outcome.{refused, accepted, Done, done, refusing, judge}
 use Rattle.chip_memory.specs.Layout.{image_size, is_image}
 use Rattle.chip_memory.proofs.Sizes.{image_length}
 use Rattle.base_types.proofs.Scan.{both_true, both_intro}
@@ -79,6 +80,15 @@ accepted_sheet n s u e = go (is_sheet n s) e
     go : (b : Bool) → accepted u ≡ judge b 12 (accepted done) → b ≡ true
     go true h = refl
     go false h = absurd cc
+
+-- judge refused it
+pub refused_sheet : (n : ℕ) (s : List ℕ) (r : Refusal) → refusing r ≡ sheet_answer n s → (is_sheet n s ≡ false) × (refusing {A = ℕ} r ≡ refused 12 [])
+unfolding sheet_answer
+refused_sheet n s r e = go (is_sheet n s) e
+  where
+    go : (b : Bool) → refusing r ≡ judge b 12 (accepted done) → (b ≡ false) × (refusing {A = ℕ} r ≡ refused 12 [])
+    go true h = absurd cc
+    go false h = (refl, cc)
 
 -- ---- the parts of a sheet
 

@@ -8,7 +8,7 @@ ghost use Rattle.plug_sheet.specs.Stored.{header_of, sheet_size, gaps_blank, is_
 use base_types::address::{Page, StatusAddress};
 use base_types::refusal::Refusal;
 use chip_memory::image::Memory;
-use chip_memory::{image, layout};
+use chip_memory::{image, layout, page};
 
 // Where the number and the image stand.
 const NUMBER: usize = 16;
@@ -35,12 +35,12 @@ fn header(last: Page) -> [u8; 16]
     [p0, p1, n0, n1, i0, i1, s0, s1, e0, e1, 0, 0, 0, 0, 0, 0]
 }
 
-// A status address is no gap, or holds FFh.
+// A status address is no gap, or holds FFh. Most bytes of a sheet's status are FFh, and then no field is looked for.
 fn gap_blank(memory: &Memory<'_>, a: StatusAddress) -> bool
     ensures { result ≡ (is_held (pages memory.now) a.0 || eqb (get_or (bytes memory.now) (status_index (pages memory.now) a.0) 0) 0xFF) }
 {
-    layout::is_held(memory.last, a)
-        || image::byte_at(memory.image, layout::status_index(memory.last, a)) == 0xFF
+    image::byte_at(memory.image, layout::status_index(memory.last, a)) == 0xFF
+        || layout::is_held(memory.last, a)
 }
 
 // An image holds FFh at every gap.
@@ -54,7 +54,7 @@ fn gaps_blank(memory: &Memory<'_>) -> bool
 
 // The right length, the right header, and FFh at every gap.
 #[tactic(auto, using(crate::proofs::Sheets::front_is), unfolding(crate::specs::Stored::is_sheet))]
-fn is_sheet(sheet: &[u8], last: Page) -> bool
+pub(crate) fn is_sheet(sheet: &[u8], last: Page) -> bool
     ensures value { result ≡ is_sheet (page_count last) sheet.now }
     ensures size { IsTrue result → length sheet.now ≡ sheet_size (page_count last) }
 {
@@ -107,7 +107,7 @@ fn fill(number: &[u8; 8], image: &[u8], sheet: &mut [u8], last: Page)
 {
     sheet[..NUMBER].copy_from_slice(&header(last));
     sheet[NUMBER..IMAGE].copy_from_slice(number);
-    sheet[IMAGE..].copy_from_slice(image);
+    page::copy(image, &mut sheet[IMAGE..]);
 }
 
 // The sheet of a number and an image, into a buffer of 2,392 bytes. Refused: 1, 10, 12 for an image with anything but FFh at a gap; the

@@ -26,7 +26,8 @@ impl fmt::Display for Meaning {
     }
 }
 
-// What was told: tenths after the word for what they are, or a refusal.
+// What was told: tenths after the word for what they are, or a refusal. Sixteen bits hold a value or a change, the sign among them, and these
+// are printed, as they stand in an answer of the C interface.
 #[derive(Clone, Copy)]
 struct Line<'a> {
     word: &'a str,
@@ -36,7 +37,10 @@ struct Line<'a> {
 impl fmt::Display for Line<'_> {
     fn fmt<W: fmt::Write>(&self, f: &mut fmt::Formatter<W>) -> fmt::Result {
         match self.told {
-            Ok(tenths) => write!(f, "{} {tenths}", self.word),
+            Ok(tenths) => {
+                let shown = base_tenths::low_bits(tenths).cast_signed();
+                write!(f, "{} {shown}", self.word)
+            }
             Err(refusal) => write!(f, "refused {}{}", refusal.number(), Meaning(refusal)),
         }
     }

@@ -1,6 +1,8 @@
 // The variation at a latitude and a column, the two arguments, of the stored sheet on standard input.
 #![tactic(auto)]
 
+ghost use Rattle.std.specs.Prelude.{◌≤◌, length, IfSome};
+
 use program_text::numeral;
 use std::env::{Env, FillError};
 use std::io;
@@ -24,7 +26,9 @@ fn has_arg(rt: &impl Env, i: usize) -> bool {
 }
 
 // An argument's bytes; none where they are more than the text holds.
-fn arg<'a>(rt: &impl Env, i: usize, text: &'a mut [u8; 16]) -> Option<&'a [u8]> {
+fn arg<'a>(rt: &impl Env, i: usize, text: &'a mut [u8; 16]) -> Option<&'a [u8]>
+    ensures { IfSome result (λ word. length word.now ≤ 16) }
+{
     let size = rt.arg(i, text).ok()?;
     Some(&text[..size])
 }

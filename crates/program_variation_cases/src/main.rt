@@ -7,22 +7,22 @@ use program_listing::{next, next_sheet};
 use std::io;
 use std::io::Read;
 
-// The next 32-bit number; none where the input ends first.
-fn next_number(input: &mut impl Read) -> io::Result<Option<u32>> {
-    Ok(next(input)?.map(u32::from_le_bytes))
-}
-
-// The next two.
+// The next two 32-bit numbers, read at once; none where the input ends first.
 fn next_pair(input: &mut impl Read) -> io::Result<Option<(u32, u32)>> {
-    let first = next_number(input)?;
-    Ok(first.zip(next_number(input)?))
+    let Some(bytes) = next::<8>(input)? else {
+        return Ok(None);
+    };
+    let [a, b, c, d, e, f, g, h] = bytes;
+    let first = u32::from_le_bytes([a, b, c, d]);
+    let second = u32::from_le_bytes([e, f, g, h]);
+    Ok(Some((first, second)))
 }
 
 // Answers the questions on a sheet; false where the input ends first.
 fn questions(rt: &impl Print, input: &mut impl Read, sheet: &[u8]) -> io::Result<bool> {
-    let Some(count) = next(input)? else {
-        return Ok(false);
-    };
+    // Where the input ends in place of the count, as many as a count can say: a terminal may go on after its end, and what comes then is
+    // taken for questions.
+    let count = next(input)?.unwrap_or([0xFF; 2]);
     for _ in 0..u16::from_le_bytes(count) {
         let Some((latitude, column)) = next_pair(input)? else {
             return Ok(false);
