@@ -76,8 +76,8 @@ fn byte_in(memory: &Memory, i: Incoming, byte: u8, crc: u16) -> MemoryStage
     }
 }
 
-// One bit more, after k of them; the register now holds v. The image and its chip are put together only for a whole byte: a Memory made at
-// each bit made writes dearer.
+// One bit more, after k of them; the register now holds v. The image and its chip are put together for a whole byte alone: a Memory at
+// each bit makes writes dearer.
 #[tactic(auto, unfolding(crate::specs::Functions::receive_bit))]
 pub fn bit_in(last: Page, i: Incoming, k: u8, v: u8, crc: u16, image: &[u8]) -> MemoryStage
     ensures { result ≡ receive_bit (page_count last) i k v crc image.now }

@@ -29,8 +29,8 @@ pub fn crc(page: &[u8]) -> u16
     base_crc::crc16::of(page)
 }
 
-// The page's bytes into a buffer, as far as both go. Byte by byte: of buffers that a caller in C lends, copy_from_slice becomes a call of
-// memmove, which the C library did not need before.
+// The page's bytes into a buffer, as far as both go. Byte by byte: where a caller in C lends both, copy_from_slice is a call of memmove,
+// which the C library does without (docs/C-INTERFACE.md).
 pub fn copy(page: &[u8], buffer: &mut [u8])
     ensures { buffer.new ≡ copied page.now buffer.old }
 {

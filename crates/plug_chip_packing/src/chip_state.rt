@@ -313,7 +313,7 @@ pub fn pack(state: State, bytes: &mut [u8]) -> Result<(), Refusal>
     ensures back { chip_state_of (chip_bytes state) ≡ state }
     ensures kept { is_chip_state (chip_bytes state) ≡ true }
 {
-    // By a name of its own: the loan of a part copied the whole state.
+    // By a name of its own: a loan of a part of the state copies the whole.
     let number = state.number;
     plug_fields::put(front_of(state.stage), &number, bytes)
 }

@@ -102,7 +102,7 @@ pub fn pack(state: NumberRead, bytes: &mut [u8]) -> Result<(), Refusal>
     ensures back { number_read_of (number_bytes state) ≡ state }
     ensures kept { is_number_state (number_bytes state) ≡ true }
 {
-    // By a name of its own: the loan of a part copied the whole state.
+    // By a name of its own: a loan of a part of the state copies the whole.
     let received = state.bytes;
     plug_fields::put(front_of(state.phase), &received, bytes)
 }

@@ -138,7 +138,7 @@ pub fn pack(state: PageRead, bytes: &mut [u8]) -> Result<(), Refusal>
     let mut front = front_of(state.phase);
     front[8] = state.page.0;
     front[9] = state.hops;
-    // By a name of its own: the loan of a part copied the whole state.
+    // By a name of its own: a loan of a part of the state copies the whole.
     let received = state.bytes;
     plug_fields::put(front, &received, bytes)
 }

@@ -123,7 +123,7 @@ pub fn pack(state: Publisher, bytes: &mut [u8]) -> Result<(), Refusal>
     front[9] = state.target.0;
     front[10] = state.used;
     front[11] = mode_byte(state.kind.mode);
-    // By a name of its own: the loan of a part copied the whole state.
+    // By a name of its own: a loan of a part of the state copies the whole.
     let new = state.new;
     plug_fields::put(front, &new, bytes)
 }

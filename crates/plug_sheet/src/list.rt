@@ -157,7 +157,7 @@ pub fn write(sheet: &[u8], text: &mut [u8]) -> Result<usize, Refusal>
     if text.len() < ROOM {
         return Err(Refusal::BufferLength);
     }
-    // Not by judge and a `?`, which took twice as long where a sheet is refused for its header.
+    // Not by judge and a `?`, which takes twice as long where a sheet is refused for its header.
     if !stored::is_sheet(sheet, layout::DS2505) {
         return Err(Refusal::Sheet);
     }
